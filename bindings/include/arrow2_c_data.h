@@ -6,10 +6,11 @@
  * is in this header and written by hand: see docs/BINDINGS.md, which is in the package too.
  *
  * The interface does not state the number of bytes of a buffer. `arrow2_array_check` trusts that each buffer has the
- * bytes that format, length, offset and last offset require. `arrow2_array_check_sized` gets the number of bytes of
- * each buffer, trusts that a buffer that is not NULL has that many, and reads nothing outside these bytes. Both
- * functions trust that every other pointer that is not NULL points to what the interface specifies. docs/BINDINGS.md
- * lists the buffers that may be anything.
+ * bytes that `format`, `length` and `offset` require. It trusts that buffer 2 of binary and utf8 has the bytes up to
+ * the last offset, which is `offsets[offset + length]`. `arrow2_array_check_sized` gets the number of bytes of each
+ * buffer, trusts that a buffer that is not NULL has that many, and reads nothing outside these bytes. Both functions
+ * trust that every other pointer that is not NULL points to what the interface specifies. For some buffers the pointer
+ * may have any value, since nothing is read through it: docs/BINDINGS.md lists them.
  *
  * Functions, types and constants whose names begin with `arrow2_c_` or `ARROW2_C_KIND_` are internal: do not use
  * them. */
@@ -81,8 +82,9 @@ struct ArrowArrayStream {
  * arrow2_bits_of_column set them from an array that was checked: one for which a check returned ARROW2_OK, or a child
  * or dictionary of such an array.
  *
- * The rules of arrow2_proved.h hold for these functions too, with two changes: NULL is allowed with any number and
- * counts as 0 bytes, and a NULL validity means that there is no bitmap. In detail:
+ * The rules of arrow2_proved.h hold for these functions too, with two changes: a pointer to bytes may be NULL also if
+ * its number of bytes is not 0, and then counts as 0 bytes; and a validity whose `bytes` is NULL means that there is no
+ * bitmap. In detail:
  * - Each `arrow2_bits_*` function of this header that returns a code calls one function of the library, and returns its
  *   code. The comment above the inline function names the function of the library. There are two exceptions. Without a
  *   validity arrow2_bits_null_count calls nothing and returns ARROW2_OK. If both validities are missing,
@@ -131,9 +133,9 @@ static inline uint32_t arrow2_bits_equal(struct arrow2_bits left, struct arrow2_
                              arrow2_c_count(right.bytes, right.bytes_len), right.offset, length, equal);
 }
 
-/* Applies `table` to each pair of bits, bit i of `left` (a1 of the table) and bit i of `right` (a2), and writes the
- * results to `out`, which has arrow2_bytes_for(length) bytes. Calls arrow2_binary_table. NULL `bytes` counts as 0 bytes
- * here, not as a missing validity. */
+/* For each i below `length`, where l is bit i of `left` and r is bit i of `right`, writes bit l + 2 * r of `table` to bit
+ * i of `out` (see "Truth tables" in arrow2_proved.h). `out` has arrow2_bytes_for(length) bytes. Calls
+ * arrow2_binary_table. NULL `bytes` counts as 0 bytes here, not as a missing validity. */
 static inline uint32_t arrow2_bits_table(struct arrow2_bits left, struct arrow2_bits right, size_t length,
                                          uint16_t table, uint8_t *out, size_t out_len) {
     return arrow2_binary_table(left.bytes, arrow2_c_count(left.bytes, left.bytes_len), left.offset, right.bytes,
@@ -229,12 +231,12 @@ static inline uint32_t arrow2_bits_or_kleene(struct arrow2_bits left, struct arr
  * array, which are buffer 1. For any other buffer `bytes_len` is not the number of its bytes, and may be greater.
  *
  * The result has `bytes` NULL, `bytes_len` 0 and `offset` 0 in each of these cases: `index` is negative or not below
- * `n_buffers`; the buffer is NULL; `length` is 0 and the buffer holds values. A null array has no buffer, and each of
+ * `n_buffers`; the buffer is NULL; `length` is 0 and `index` is 1 or more. A null array has no buffer, and each of
  * its items is null. So test the format before you take a validity, as `columns.c` of the examples does.
  *
- * Only the array's own offset is applied. The result does not state how many bits there are: there are
- * `array->length` bits, and the first is bit `offset` of the result. For a column of a batch call
- * arrow2_bits_of_column. */
+ * Only the array's own offset is applied. The result has no member for the number of bits, which is `array->length`.
+ * The first of these bits is bit `result.offset` of `result.bytes`, as in every `struct arrow2_bits`. For a column of a batch
+ * call arrow2_bits_of_column. */
 static inline struct arrow2_bits arrow2_bits_of(const struct ArrowArray *array, int index) {
     struct arrow2_bits bits = {NULL, 0, 0};
     if (index < 0 || index >= array->n_buffers || !array->buffers[index] || (index > 0 && array->length == 0)) {
@@ -996,16 +998,16 @@ static inline uint32_t arrow2_c_check_root(const struct ArrowSchema *schema, con
  * buffer that is too short. `schema` and `array` may be NULL: the code is then ARROW2_C_NULL. `where` may be NULL.
  *
  * Schema and array stay the caller's, whatever the code is: nothing in them is changed, kept or released. The caller
- * releases both, also after an error: `if (array.release) array.release(&array);`, since with ARROW2_C_RELEASED
- * `release` may be NULL.
+ * releases both, also after an error: `if (own.release) own.release(&own);` for its own struct `own`, since with
+ * ARROW2_C_RELEASED `release` may be NULL.
  *
  * If the code is ARROW2_OK, all offsets and indices that the check read are aligned. Plain values are possibly not
  * aligned: read an int64 column through `int64_t *` only where its pointer is a multiple of 8, else by memcpy.
  *
  * If the code is not ARROW2_OK and `where` is not NULL, `*where` is written; else it stays as it was. Nothing is read
- * past the bytes that format, length, offset and last offset require. Since the sizes of buffers are not known, 2^56
- * bytes are taken as the size of each. An array that would need a larger buffer is rejected, with ARROW2_PAST for an
- * offset into binary or utf8 bytes, else with ARROW2_RANGE. */
+ * past the bytes that format, `length`, `offset` and last offset require. Since the sizes of buffers are not known,
+ * 2^56 bytes are taken as the size of each. An array that would need a larger buffer is rejected, with ARROW2_PAST for
+ * an offset into binary or utf8 bytes, else with ARROW2_RANGE. */
 static inline uint32_t arrow2_array_check(const struct ArrowSchema *schema, const struct ArrowArray *array,
                                           struct arrow2_where *where) {
     return arrow2_c_check_root(schema, array, NULL, 0, where);

@@ -15,10 +15,10 @@
  *   the pointer, 0 as the number of bytes, 0 as the offset, and true as this argument. Every other call needs the bitmap.
  * - An output must not overlap any other argument, input or output. `bytes` of the *_assign_table calls and of
  *   arrow2_set_bit, and `*at`, are outputs too. Inputs may overlap each other.
- * - Every `bool` must hold 0 or 1 when the call begins. This also holds for output bools (`*equal`, `*value`, each item
- *   of `out` of arrow2_unpack), although the call only writes them: set them before the call. Other outputs need not be
- *   initialised, except `*at`, and `bytes` of the *_assign_table calls and of arrow2_set_bit: a call may read their old
- *   contents, but these change nothing that it writes.
+ * - Every `bool` must hold 0 or 1 when the call begins. This also holds for output bools (`*equal`, `*value`, each
+ *   item of `out` of arrow2_unpack), although the call only writes them: set them before the call. `*at`, and `bytes`
+ *   of the *_assign_table calls and of arrow2_set_bit, are inputs too: set them before the call. No other output need
+ *   be initialised: a call may read its old contents, but what the call writes does not depend on them.
  * - Other threads may read the memory that a call reads. Until the call returns, no other thread may write that memory,
  *   and none may read or write the memory that the call writes.
  * - Bit i of bytes is bit i % 8 of byte i / 8, the lowest first. Offsets and lengths of bits are in bits. Each may have
@@ -332,10 +332,11 @@ uint32_t arrow2_texts32_check(const int32_t *offsets, size_t offsets_len, const 
 uint32_t arrow2_texts64_check(const int64_t *offsets, size_t offsets_len, const uint8_t *values, size_t values_len,
                               size_t *index);
 
-/* Checks whether each index that is not null is at least 0 and below `items`. Index k is null if bit
- * `validity_offset` + k of the validity is 0. If `all_valid` is true, no index is null: pointer, number of bytes and
- * offset of the validity are not read, and ARROW2_RANGE never comes from them. The rule for slices still holds for the
- * pointer and its number of bytes: pass NULL, 0, 0, or any valid bitmap, which is then ignored.
+/* Checks whether the bits of the validity are inside its bytes, and each index that is not null is at least 0 and
+ * below `items`. Index k is null if bit `validity_offset` + k of the validity is 0. If `all_valid` is true, no index
+ * is null: pointer, number of bytes and offset of the validity are not read, and ARROW2_RANGE never comes from them.
+ * The rule for slices still holds for the pointer and its number of bytes: pass NULL, 0, 0, or any valid bitmap, which
+ * is then ignored.
  * ARROW2_RANGE: the `indices_len` bits from bit `validity_offset` on are not inside the validity. ARROW2_INDEX: an
  * index that is not null is negative or not below `items`; `*slot` is the position of the first such index, counted
  * from 0. */

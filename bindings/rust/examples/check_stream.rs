@@ -1,4 +1,5 @@
-//! Makes a stream of two batches, one of which has a text that is no UTF-8, checks it, and prints its columns.
+//! Makes a stream of two batches of texts, checks each batch, and prints its texts. One batch has a text that is not
+//! UTF-8: the check rejects it.
 
 use arrow2_proved::c_data::{ArrowArray, ArrowArrayStream, ArrowSchema, Stream};
 use core::ffi::{c_int, c_void};

@@ -78,7 +78,8 @@ pub fn set_bit(bytes: &mut [u8], index: usize, value: bool) -> Result<(), Error>
     to_result(unsafe { sys::arrow2_set_bit(bytes.as_mut_ptr(), bytes.len(), index, value) })
 }
 
-/// Copies the `length` bits from bit `offset` on to `out`, from bit 0 on. Padding bits of `out` become 0.
+/// Copies the `length` bits that begin at bit `offset` into `out`, from bit 0 of `out` on. Padding bits of `out` become
+/// 0.
 ///
 /// # Errors
 ///

@@ -6,12 +6,12 @@ use core::fmt;
 /// Why a call failed. Nothing was written.
 #[derive(Clone, Copy, Debug, PartialEq, Eq)]
 pub enum Error {
-    /// An index or a range is out of bounds, or a truth-table number is too large: above 3, 15 or 255 for one, two or
-    /// three inputs.
+    /// The index of a bit, the start of a search or a range is out of bounds, or a truth-table number is too large:
+    /// above 3, 15 or 255 for one, two or three inputs. An index into a dictionary gives [`Error::Index`].
     Range,
-    /// An output slice is not exactly the required size (for bits, the number of bytes that [`crate::bytes_for`]
-    /// returns), the two output slices of runs or the two slices of a widen or narrow call differ in length, or the
-    /// output of a rebase call is empty.
+    /// An output slice does not have exactly the required size: for bits, the number of bytes that
+    /// [`crate::bytes_for`] returns. Or the two outputs of [`crate::runs`] differ in length, or the two slices of
+    /// [`crate::widen`] or [`crate::narrow`] do. Or the output of [`crate::Offset::rebase`] is empty.
     Length,
     /// A number is above the greatest offset: `i32::MAX` or `i64::MAX`.
     Overflow,
@@ -25,7 +25,7 @@ pub enum Error {
     FallingOffsets,
     /// The number of nulls is not the declared one.
     Nulls,
-    /// An offset is greater than the number of bytes or child items that the offsets index.
+    /// An offset is greater than the number of bytes, or of child items, that the offsets point into.
     PastOffset,
     /// The bytes of a slot are not UTF-8.
     NotUtf8,
@@ -59,8 +59,8 @@ impl fmt::Display for Error {
             Error::Overflow => "a number is above the greatest offset",
             Error::Memory => "out of memory",
             Error::NoOffset => "offsets must have at least one element",
-            Error::NegativeOffset => "offsets must be larger than 0",
-            Error::FallingOffsets => "offsets must be monotonically increasing",
+            Error::NegativeOffset => "the first offset is negative",
+            Error::FallingOffsets => "an offset is below the one before it",
             Error::Nulls => "the nulls are not as many as declared",
             Error::PastOffset => "an offset is past its items",
             Error::NotUtf8 => "a text is not UTF-8",

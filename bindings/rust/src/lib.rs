@@ -1,10 +1,15 @@
 //! The memory layer under Apache Arrow arrays: bits, truth tables and offsets, in slices of the caller.
 //!
-//! The library that this crate calls is proved (`docs/BINDINGS.md`); the crate itself is written by hand. The crate
-//! adds the guarantees of Rust's slices: no pointer is null, and a slice that is written overlaps none that is read.
+//! The library that this crate calls is proved to meet its contracts (`docs/BINDINGS.md`). The crate itself is not
+//! proved, only tested. It adds the guarantees of Rust's slices: no pointer is null, and a slice that is written
+//! overlaps none that is read.
 //!
-//! Bit `i` of bytes is bit `i % 8` of byte `i / 8`, the lowest first. Lengths and offsets of bits are in bits, and may
-//! be any numbers. A call that fails writes nothing. Only `c_data` allocates; no call panics.
+//! Bit `i` of bytes is bit `i % 8` of byte `i / 8`, the lowest first. Lengths and offsets of bits are in bits. They
+//! need not be multiples of 8, and numbers that are out of range give an error, also an offset past the end with a
+//! length of
+//! 0. A call that fails writes nothing. Only `c_data` allocates; no call panics.
+//!
+//! A truth table is a number: bit `a1 + 2 * a2 + 4 * a3 + 8 * a4` of it is the output for inputs `a1` to `a4`.
 //!
 //! ```
 //! use arrow2_proved::{Bits, binary_table, count_zeros};
@@ -49,7 +54,7 @@ pub use tables::{
     ternary_assign_table, ternary_table, unary_assign_table, unary_table,
 };
 
-/// Bits of bytes from a bit offset on.
+/// The bits of `bytes` that begin at bit `offset`. Calls take the number of bits separately.
 #[derive(Clone, Copy, Debug)]
 pub struct Bits<'a> {
     /// The bytes.

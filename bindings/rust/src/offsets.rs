@@ -32,7 +32,7 @@ pub trait Offset: sealed::Sealed + Copy {
     ///
     /// # Errors
     ///
-    /// The error of the first rule that the numbers break.
+    /// The error of the first rule that the numbers break: see [`Offset`].
     fn check(offsets: &[Self]) -> Result<(), Error>;
 
     /// Writes the length of each slot.
@@ -82,34 +82,36 @@ macro_rules! offset {
         $width:ty, $check:ident, $lengths:ident, $lengths_unchecked:ident, $from_lengths:ident, $rebase:ident,
         $rebase_unchecked:ident, $inside:ident, $texts:ident
     ) => {
-        // SAFETY, of each call: each slice is borrowed for the call, those that are written exclusively, and no call
-        // keeps one.
         impl sealed::Sealed for $width {
             #[inline]
             unsafe fn lengths_unchecked(offsets: &[Self], out: &mut [usize]) -> u32 {
+                // SAFETY: the slices are borrowed for the call, `out` alone, and it keeps none. The caller has offsets.
                 unsafe { sys::$lengths_unchecked(offsets.as_ptr(), offsets.len(), out.as_mut_ptr(), out.len()) }
             }
 
             #[inline]
             unsafe fn rebase_unchecked(offsets: &[Self], from: usize, out: &mut [Self]) -> u32 {
+                // SAFETY: the slices are borrowed for the call, `out` alone, and it keeps none. The caller has offsets.
                 unsafe { sys::$rebase_unchecked(offsets.as_ptr(), offsets.len(), from, out.as_mut_ptr(), out.len()) }
             }
         }
 
-        // SAFETY, of each call: as above.
         impl Offset for $width {
             #[inline]
             fn check(offsets: &[Self]) -> Result<(), Error> {
+                // SAFETY: the slice is borrowed for the call, which does not keep it.
                 to_result(unsafe { sys::$check(offsets.as_ptr(), offsets.len()) })
             }
 
             #[inline]
             fn lengths(offsets: &[Self], out: &mut [usize]) -> Result<(), Error> {
+                // SAFETY: the slices are borrowed for the call, `out` alone, and it keeps none.
                 to_result(unsafe { sys::$lengths(offsets.as_ptr(), offsets.len(), out.as_mut_ptr(), out.len()) })
             }
 
             #[inline]
             fn from_lengths(start: usize, lengths: &[usize], out: &mut [Self]) -> Result<(), Error> {
+                // SAFETY: the slices are borrowed for the call, `out` alone, and it keeps none.
                 to_result(unsafe {
                     sys::$from_lengths(start, lengths.as_ptr(), lengths.len(), out.as_mut_ptr(), out.len())
                 })
@@ -117,12 +119,14 @@ macro_rules! offset {
 
             #[inline]
             fn rebase(offsets: &[Self], from: usize, out: &mut [Self]) -> Result<(), Error> {
+                // SAFETY: the slices are borrowed for the call, `out` alone, and it keeps none.
                 to_result(unsafe { sys::$rebase(offsets.as_ptr(), offsets.len(), from, out.as_mut_ptr(), out.len()) })
             }
 
             #[inline]
             fn check_inside(offsets: &[Self], items: usize) -> Result<(), ErrorAt> {
                 let mut index = 0;
+                // SAFETY: all is borrowed for the call, `index` alone, and it keeps nothing.
                 let code = unsafe { sys::$inside(offsets.as_ptr(), offsets.len(), items, &mut index) };
                 to_result_at(code, index)
             }
@@ -130,6 +134,7 @@ macro_rules! offset {
             #[inline]
             fn check_texts(offsets: &[Self], values: &[u8]) -> Result<(), ErrorAt> {
                 let mut index = 0;
+                // SAFETY: all is borrowed for the call, `index` alone, and it keeps nothing.
                 let code =
                     unsafe { sys::$texts(offsets.as_ptr(), offsets.len(), values.as_ptr(), values.len(), &mut index) };
                 to_result_at(code, index)
@@ -170,7 +175,7 @@ impl<'a, O: Offset> CheckedOffsets<'a, O> {
     ///
     /// # Errors
     ///
-    /// The error of the first rule that the numbers break.
+    /// The error of the first rule that the numbers break: see [`Offset`].
     #[inline]
     pub fn new(offsets: &'a [O]) -> Result<Self, Error> {
         O::check(offsets)?;

@@ -18,7 +18,8 @@ pub const OR: u16 = 0b1110;
 /// The table of two inputs whose output is whether one is set, and not both.
 pub const XOR: u16 = 0b0110;
 
-/// Writes the outputs of `table` for `length` bits of the input to `out`, from bit 0 on. Padding bits become 0.
+/// Applies `table` to each of `length` bits of `input`, and writes the outputs into `out`, from bit 0 of `out` on.
+/// Padding bits of `out` become 0.
 ///
 /// # Errors
 ///

@@ -30,7 +30,7 @@ use std::marker::Model;
 /// An array of nullable booleans.
 ///
 /// Contracts see its values and its validity; `boolean_items` is the list of its items. Slices and clones share the
-/// bytes of both.
+/// bytes of the values and of the validity.
 ///
 /// Differs from arrow2, whose array has a logical type too: `Boolean`, or an extension of it. An array here is not
 /// `Send`, and there is no trait `Array`.
@@ -70,8 +70,8 @@ impl BooleanArray {
     ///
     /// # Errors
     ///
-    /// If the lengths differ, `InvalidArgumentError`, or `OutOfMemory`. The code returns `OutOfMemory` only if the
-    /// message cannot be allocated; no clause states that. There is no other error. After an error both bitmaps are
+    /// It fails exactly if the lengths differ, with `InvalidArgumentError` or `OutOfMemory`. The code returns
+    /// `OutOfMemory` only if the message cannot be allocated; no clause states that. After an error both bitmaps are
     /// dropped.
     pub fn try_new(values: Bitmap, validity: Option<Bitmap>) -> Result<BooleanArray>
         ensures ok { IfOk result (λ a. a ≡ record {
@@ -121,7 +121,7 @@ impl BooleanArray {
     /// Returns the array of these items. It has a validity bitmap exactly if an item is null. The values under nulls
     /// are unspecified.
     ///
-    /// Stands for arrow2's `From` of a slice.
+    /// Replaces arrow2's `From` of a slice of `Option<bool>`s.
     ///
     /// # Errors
     ///
@@ -211,8 +211,8 @@ impl BooleanArray {
         self.validity.bitmap()
     }
 
-    /// Returns the [`Validity`]: the array's length and an optional bitmap. Its calls need no branch on whether there
-    /// is a bitmap. arrow2 has no such call.
+    /// Returns the [`Validity`]: the array's length and an optional bitmap. A caller of its methods need not test
+    /// whether there is a bitmap. arrow2 has no such call.
     pub fn optional_validity(&self) -> &Validity
         ensures value { result.now ≡ self.now.validity }
         ensures items { valid_items result.now ≡ map is_some (boolean_items self.now) }
@@ -294,7 +294,7 @@ impl BooleanArray {
     /// if either is null, else true. The values of the result are `and` of the values of both arrays, also under nulls.
     /// Requires that both arrays have equal lengths.
     ///
-    /// In arrow2 it is `compute::boolean_kleene::and`, which returns an error for unequal lengths.
+    /// In arrow2 it is `compute::boolean_kleene::and`, which rejects unequal lengths.
     ///
     /// # Errors
     ///
@@ -314,7 +314,8 @@ impl BooleanArray {
         // It has no bitmap exactly where neither array has one.
         ensures bitmap { IfOk result (λ a. IsNone a.validity.bitmap
             ↔ (IsNone self.now.validity.bitmap × IsNone other.now.validity.bitmap)) }
-        // The values, and the validity bitmap if there is one, are packed. The only error is `OutOfMemory`.
+        // The values are stored in canonical bytes, and so is the validity bitmap, if there is one. The only error is
+        // `OutOfMemory`.
         ensures storage { IfOk result (λ a. IsPacked a.values) }
         ensures packed { IfOk result (λ a. IfSome a.validity.bitmap (λ v. IsPacked v)) }
         ensures only { IfErr result (λ e. e ≡ Error.OutOfMemory) }
@@ -326,7 +327,7 @@ impl BooleanArray {
     /// null if either is null, else false. The values of the result are `or` of the values of both arrays, also under
     /// nulls. Requires that both arrays have equal lengths.
     ///
-    /// In arrow2 it is `compute::boolean_kleene::or`, which returns an error for unequal lengths.
+    /// In arrow2 it is `compute::boolean_kleene::or`, which rejects unequal lengths.
     ///
     /// # Errors
     ///
@@ -346,7 +347,8 @@ impl BooleanArray {
         // It has no bitmap exactly where neither array has one.
         ensures bitmap { IfOk result (λ a. IsNone a.validity.bitmap
             ↔ (IsNone self.now.validity.bitmap × IsNone other.now.validity.bitmap)) }
-        // The values, and the validity bitmap if there is one, are packed. The only error is `OutOfMemory`.
+        // The values are stored in canonical bytes, and so is the validity bitmap, if there is one. The only error is
+        // `OutOfMemory`.
         ensures storage { IfOk result (λ a. IsPacked a.values) }
         ensures packed { IfOk result (λ a. IfSome a.validity.bitmap (λ v. IsPacked v)) }
         ensures only { IfErr result (λ e. e ≡ Error.OutOfMemory) }
@@ -355,7 +357,7 @@ impl BooleanArray {
     }
 
     /// Returns, item by item, the result of the operator for the items of both arrays. Uses the truth tables of the
-    /// operator.
+    /// operator. Requires that both arrays have equal lengths.
     fn by_operator(&self, operator: Operator, other: &BooleanArray) -> Result<BooleanArray>
         requires same_length { length (boolean_items self.now) ≡ length (boolean_items other.now) }
         // The result, item by item.
@@ -371,7 +373,8 @@ impl BooleanArray {
         // It has no bitmap exactly where neither array has one.
         ensures bitmap { IfOk result (λ a. IsNone a.validity.bitmap
             ↔ (IsNone self.now.validity.bitmap × IsNone other.now.validity.bitmap)) }
-        // The values, and the validity bitmap if there is one, are packed. The only error is `OutOfMemory`.
+        // The values are stored in canonical bytes, and so is the validity bitmap, if there is one. The only error is
+        // `OutOfMemory`.
         ensures storage { IfOk result (λ a. IsPacked a.values) }
         ensures packed { IfOk result (λ a. IfSome a.validity.bitmap (λ v. IsPacked v)) }
         ensures only { IfErr result (λ e. e ≡ Error.OutOfMemory) }
@@ -400,8 +403,8 @@ impl<'a> IntoIterator for &'a BooleanArray {
     }
 }
 
-/// Shares the bytes. Does not allocate: in the code it fails only if a reference count would overflow. No clause states
-/// any of this.
+/// Shares the bytes. Does not allocate. It fails only if a reference count would overflow. No clause states any of
+/// this.
 impl Clone for BooleanArray {
     ghost is_clone = { λ a copy. copy ≡ a };
 

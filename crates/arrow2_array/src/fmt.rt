@@ -8,8 +8,8 @@ use crate::boolean::BooleanArray;
 use std::fmt;
 
 /// Writes the name of the type and then the items in brackets, a null as `None`: for example `BooleanArray[true, None,
-/// false]`. Formatter flags are ignored. Where an enclosing value is printed with `{:#?}`, the formatter indents each
-/// line; no clause states what is written then.
+/// false]`. Formatter flags are ignored. The clause states nothing where the array is printed as a part of another
+/// value by `{:#?}`: that formatter indents each line.
 impl fmt::Debug for BooleanArray {
     ghost debug_output = { λ a. Some (array_text (boolean_items a)) };
 

@@ -8,7 +8,7 @@ use crate::boolean::BooleanArray;
 use std::alloc::AllocError;
 use std::marker::Model;
 
-/// An iterator over the items of a boolean array, from both ends: contracts see the list of those still to come.
+/// An iterator over the items of a boolean array, from both ends. Contracts see the list of the items still to come.
 ///
 /// In arrow2 it is a `ZipValidity`.
 #[derive(Drop)]

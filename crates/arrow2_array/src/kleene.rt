@@ -1,4 +1,5 @@
-//! Which results of Kleene's logic are known, by truth tables.
+//! Truth tables of Kleene's `and` and `or`. For each operator, one table gives the value of the result, and two others
+//! give whether the result is not null.
 ghost use Rattle.std.specs.Prelude.{◌≡◌, ◌↔◌, [], ◌∷◌, length, Some, IsNone, IfOk, IfErr, IfSome};
 ghost use Rattle.arrow2_model.specs.Storage.{items_of};
 ghost use Rattle.arrow2_model.specs.Tables.{each};
@@ -17,8 +18,8 @@ pub const AND_VALUES: u8 = 0b1000;
 /// The truth table of `or` on two values: bit `left + 2 * right` is its result.
 pub const OR_VALUES: u8 = 0b1110;
 
-/// The truth table of whether the result of `and` is known, that is, not null: bit
-/// `left + 2 * left_validity + 4 * right + 8 * right_validity`.
+/// The truth table of whether the result of `and` is known, that is, not null. Its bit
+/// `left + 2 * left_validity + 4 * right + 8 * right_validity` is the output for these inputs.
 ///
 /// The literal has four groups of four bits. In the order in which they are written, they are for a right item that is
 /// true, false, a null over a stored true, and a null over a stored false. Within a group, the bits are for the same
@@ -28,12 +29,13 @@ pub const AND_KNOWN: u16 = 0b1100_1111_0100_0100;
 /// The truth table of whether the result of `or` is known, with the same inputs as [`AND_KNOWN`].
 pub const OR_KNOWN: u16 = 0b1111_1100_1000_1000;
 
-/// The truth table of whether the result of `and` is known, where one of the two items is not null: bit
-/// `value + 2 * validity + 4 * other`. Here `other` is the value of the item that is not null. `value` and `validity`
-/// are those of the item that may be null.
+/// The truth table of whether the result of `and` is known, where one array has no validity bitmap, so that its item is
+/// not null. Its bit `value + 2 * validity + 4 * other` is the output for these inputs: `other` is the value of the
+/// item that is not null, `value` and `validity` are those of the item that may be null.
 pub const AND_KNOWN_PAIRED: u8 = 0b1100_1111;
 
-/// The truth table of whether the result of `or` is known in that case, with the same inputs as [`AND_KNOWN_PAIRED`].
+/// The truth table of whether the result of `or` is known, where one array has no validity bitmap. Its inputs are those
+/// of [`AND_KNOWN_PAIRED`].
 pub const OR_KNOWN_PAIRED: u8 = 0b1111_1100;
 
 /// An operator of Kleene's logic.
@@ -46,7 +48,7 @@ pub(crate) enum Operator {
 }
 
 impl Operator {
-    /// Returns the table of its values.
+    /// Returns the truth table of the values of the results.
     pub(crate) fn values(self) -> u8
         ensures { result ≡ values_table self }
     {
@@ -66,7 +68,7 @@ impl Operator {
         }
     }
 
-    /// Returns the truth table of the validity of the results, where one of the two items is not null.
+    /// Returns the truth table of the validity of the results, where one array has no validity bitmap.
     fn pair_validity_table(self) -> u8
         ensures { result ≡ paired_table self }
     {
@@ -77,8 +79,9 @@ impl Operator {
     }
 }
 
-/// Returns which results of the operator for the items of two arrays are known. Uses the table of three inputs where
-/// one array has no validity bitmap. Where neither has one, the returned validity has none.
+/// Returns the validity of the results of the operator for the items of two arrays. Where exactly one array has a
+/// validity bitmap, uses `pair_validity_table`. Where neither has one, the returned validity has none. Requires that
+/// both bitmaps and both validities have equal lengths.
 pub(crate) fn validity_by(
     operator: Operator,
     left: &Bitmap,
@@ -115,7 +118,7 @@ pub(crate) fn validity_by(
     }
 }
 
-/// Returns the validity of `len` items by this bitmap. Requires that the bitmap has `len` items.
+/// Returns the validity of `len` items whose bitmap is `known`. Requires that the bitmap has `len` items.
 #[tactic(auto, using(arrow2_validity::proofs::ValidItems::validities))]
 fn known_by(len: usize, known: Bitmap) -> Validity
     requires same_length { length (items_of known) ≡ len }

@@ -18,8 +18,9 @@ use std::marker::Model;
 /// An array of booleans that grows.
 ///
 /// Contracts see its items and its capacity. A call that appends has one clause, the record `AppendsBooleans` of
-/// `specs/Growth.antt`: the items after `Ok` and after an error, exactly when `Overflow` comes, that `OutOfMemory` is
-/// the only other error, and that the call succeeds within the capacity.
+/// `specs/Growth.antt`. It states the items after `Ok` and after an error. It states exactly when `Overflow` comes, and
+/// that the only other error is `OutOfMemory`. It states that the call succeeds within the capacity, and that the
+/// capacity never falls.
 ///
 /// Differs from arrow2: the validity is always stored, and [`MutableBooleanArray::freeze`] leaves it out where no item
 /// is null. Before `freeze`, only [`MutableBooleanArray::pop`] returns an item, and no call sets one.
@@ -95,7 +96,7 @@ impl MutableBooleanArray {
         self.values.capacity().min(self.validity.capacity())
     }
 
-    /// Reserves capacity for `additional` more items. Within the capacity it does not allocate.
+    /// Reserves capacity for `additional` more items. Does not allocate if the spare capacity is enough for them.
     ///
     /// # Errors
     ///
@@ -218,7 +219,8 @@ impl MutableBooleanArray {
     }
 }
 
-/// Appends the `len` items of a bitmap from item `start` on.
+/// Appends the `len` items of a bitmap from item `start` on. Requires that `start + len` is at most the bitmap's
+/// length.
 #[tactic(auto, using(crate::proofs::Items::growing))]
 fn extend_part(items: &mut MutableBitmap, bitmap: &Bitmap, start: usize, len: usize) -> Result<()>
     requires inside { start + len ≤ length (items_of bitmap.now) }

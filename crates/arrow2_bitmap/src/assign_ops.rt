@@ -20,8 +20,8 @@ use std::ops::{BitAnd, BitAndAssign, BitOr, BitOrAssign, BitXor, BitXorAssign, N
 /// any word, not only for those of the bitmap.
 ///
 /// For any `op` the clauses state that the items are the bits of result words, and that each result word is one that
-/// the contract of `op` allows for the input word at its index. If the contract of `op` determines each result (as a
-/// function of its words, or through a truth table for each bit), the clauses determine each item.
+/// the contract of `op` allows for the input word at its index. If the contract of `op` determines each result word
+/// (as a function of the input word, or by one truth table for all bits), the clauses determine each item.
 ///
 /// Differs from arrow2: the padding bits of the words count as false, and are false afterwards.
 pub fn unary_assign<T: BitChunk, F: Fn(T) -> T>(bitmap: &mut MutableBitmap, op: F)
@@ -47,8 +47,8 @@ pub fn unary_assign<T: BitChunk, F: Fn(T) -> T>(bitmap: &mut MutableBitmap, op: 
 /// equal lengths, and that the `requires` of `op` holds for any two words, not only for those of the bitmaps.
 ///
 /// For any `op` the clauses state that the items are the bits of result words, and that each result word is one that
-/// the contract of `op` allows for the input words at its index. If the contract of `op` determines each result (as a
-/// function of its words, or through a truth table for each bit), the clauses determine each item.
+/// the contract of `op` allows for the input words at its index. If the contract of `op` determines each result word
+/// (as a function of the input words, or by one truth table for all bits), the clauses determine each item.
 ///
 /// Differs from arrow2: the padding bits of the words count as false, and are false afterwards.
 pub fn binary_assign<T: BitChunk, F: Fn(T, T) -> T>(lhs: &mut MutableBitmap, rhs: &Bitmap, op: F)

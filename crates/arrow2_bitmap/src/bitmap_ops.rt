@@ -25,8 +25,8 @@ use std::ops::{BitAnd, BitOr, BitXor, Not};
 /// have `len` items, and that the `requires` of `op` holds for any words, not only for those of these lists.
 ///
 /// For any `op` the clauses state that the items are the bits of result words, and that each result word is one that
-/// the contract of `op` allows for the input words at its index. If the contract of `op` determines each result (as a
-/// function of its words, or through a truth table for each bit), the clauses determine each item.
+/// the contract of `op` allows for the input words at its index. If the contract of `op` determines each result word
+/// (as a function of the input words, or by one truth table for all bits), the clauses determine each item.
 ///
 /// arrow2 has no such call.
 ///
@@ -74,11 +74,11 @@ pub fn from_rows<S: WordRows<u64>, F: Fn(S::Row) -> u64>(
 /// of the bitmap.
 ///
 /// For any `op` the clauses state that the items are the bits of result words, and that each result word is one that
-/// the contract of `op` allows for the input word at its index. If the contract of `op` determines each result (as a
-/// function of its words, or through a truth table for each bit), the clauses determine each item.
+/// the contract of `op` allows for the input word at its index. If the contract of `op` determines each result word
+/// (as a function of the input word, or by one truth table for all bits), the clauses determine each item.
 ///
-/// Differs from arrow2: the padding bits of the words count as false. Where no items follow the last full word,
-/// arrow2 calls `op` once more, and the code here does not; no clause states this. arrow2's `unary` returns no `Result`.
+/// Differs from arrow2: the padding bits of the words count as false. Where no items follow the last full word, arrow2
+/// calls `op` once more, and the code here does not; no clause states this. arrow2's `unary` returns no `Result`.
 ///
 /// # Errors
 ///
@@ -115,11 +115,11 @@ pub fn unary<F: Fn(u64) -> u64>(lhs: &Bitmap, op: F) -> Result<Bitmap>
 /// of `op` holds for any two words, not only for those of the bitmaps.
 ///
 /// For any `op` the clauses state that the items are the bits of result words, and that each result word is one that
-/// the contract of `op` allows for the input words at its index. If the contract of `op` determines each result (as a
-/// function of its words, or through a truth table for each bit), the clauses determine each item.
+/// the contract of `op` allows for the input words at its index. If the contract of `op` determines each result word
+/// (as a function of the input words, or by one truth table for all bits), the clauses determine each item.
 ///
-/// Differs from arrow2: the padding bits of the words count as false. Where no items follow the last full word,
-/// arrow2 calls `op` once more, and the code here does not; no clause states this. arrow2's `binary` returns no `Result`.
+/// Differs from arrow2: the padding bits of the words count as false. Where no items follow the last full word, arrow2
+/// calls `op` once more, and the code here does not; no clause states this. arrow2's `binary` returns no `Result`.
 ///
 /// # Errors
 ///

@@ -405,9 +405,10 @@ impl Bitmap {
     }
 
     /// Returns an iterator over the items by words of `T`, from the first item on. In the contract, `spill` is the word
-    /// that `remainder` returns. Its lowest bits are the items after the last full word. Above these come stored bits
-    /// that follow the last item, up to the width of the word: if there is a full word, only those in the byte of the
-    /// last item; if there is none, also those of the bytes after it. All other bits of the word are 0.
+    /// that `remainder` returns. Its lowest bits are the items after the last full word. Above these come the bits that
+    /// are stored after the last item, as many as fit into the word. If the bitmap has a full word, they end with the
+    /// byte that holds the last item. If it has no full word, they go on into the bytes after that byte. All other bits
+    /// of the word are 0.
     pub fn chunks<T: BitChunk>(&self) -> BitChunks<'_, T>
         ensures items { result.items ≡ items_of self.now }
         ensures fits { length (items_of self.now) < 2 ^ 64 }
@@ -679,7 +680,7 @@ impl fmt::Debug for Bitmap {
 
     /// If it returns `Ok`, it wrote exactly the text that the definition `shown` gives for the bytes, the bit offset
     /// and the length: width, precision and flags of the formatter, `#` too, change nothing. The clause states nothing
-    /// for the formatter that indents the fields of a value printed by `{:#?}`.
+    /// where the bitmap is printed as a part of another value by `{:#?}`: that formatter indents each line.
     fn fmt<W: fmt::Write>(&self, f: &mut fmt::Formatter<W>) -> fmt::Result
         ensures styled { let b = self.now in WritesStyledOnOk W.write_str_gives f.old result (shown
             (part b.bytes (b.offset / 8) ((b.offset % 8 + b.len + 7) / 8)) (b.offset % 8) b.len) f.new }

@@ -491,8 +491,8 @@ impl fmt::Debug for MutableBitmap {
     ghost debug_output = { λ m. Some (shown (canonical_bytes m.items) 0 (length m.items)) };
 
     /// If it returns `Ok`, it wrote exactly the text that the definition `shown` gives for the items: width, precision
-    /// and flags of the formatter, `#` too, change nothing. The clause states nothing for the formatter that indents
-    /// the fields of a value printed by `{:#?}`.
+    /// and flags of the formatter, `#` too, change nothing. The clause states nothing where the bitmap is printed as a
+    /// part of another value by `{:#?}`: that formatter indents each line.
     fn fmt<W: fmt::Write>(&self, f: &mut fmt::Formatter<W>) -> fmt::Result
         ensures styled { WritesStyledOnOk W.write_str_gives f.old result
             (shown (canonical_bytes self.now.items) 0 (length self.now.items)) f.new }

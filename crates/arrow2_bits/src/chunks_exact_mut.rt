@@ -15,9 +15,12 @@ use std::mem;
 
 /// An iterator over the first bits of bytes by mutable chunks, each of `T::SIZE` bytes.
 ///
-/// Contracts see the bytes of the chunks as written so far, but for the chunks up to the last one that `next` returned;
-/// the index of the next chunk in these bytes; the number of bytes of a chunk; the bytes of the remainder; and the
-/// number of bits of the remainder.
+/// Contracts see:
+///
+/// - the bytes of the chunks, as written so far, without those of the chunks up to the last one that `next` returned;
+/// - the index in these bytes at which the next chunk begins;
+/// - the number of bytes of a chunk;
+/// - the bytes of the remainder, and the number of bits of the remainder.
 #[derive(Debug, Drop)]
 pub struct BitChunksExactMut<'a, T> {
     bytes: &'a mut [u8],
@@ -42,7 +45,8 @@ impl<'a, T> Model for BitChunksExactMut<'a, T> {
       remainder_len = c.remainder_len;
     } };
 
-    // The invariant does not state that `at` is inside: bytes that are lent whole could come back as any list.
+    // The invariant does not state that `at` is inside `bytes`: `bytes_mut` lends all of them, and its contract allows
+    // that they are a list of any length after the loan.
     ghost invariant = { λ c. c.remainder_len < 8 * c.size };
 }
 
@@ -50,13 +54,13 @@ impl<'a, T: BitChunk> BitChunksExactMut<'a, T> {
     /// Returns an iterator over the first `len` bits. Requires that they are inside the bytes; arrow2 panics otherwise.
     pub fn new(bytes: &'a mut [u8], len: usize) -> BitChunksExactMut<'a, T>
         requires { len ≤ 8 * length bytes.old }
-        // The bytes of the full chunks. The first chunk comes next.
+        // The bytes of the full chunks. The next chunk is the first one.
         ensures bytes { result.bytes ≡ take
             (T.SIZE * (len / 8 / T.SIZE)) bytes.old }
         ensures at { result.at ≡ 0 }
         ensures size { result.size ≡ T.SIZE }
         ensures left { chunks_left result ≡ len / 8 / T.SIZE }
-        // The bytes after them, and the number of their bits.
+        // The bytes after them, and the number of bits in these bytes.
         ensures remainder { let full = T.SIZE * (len / 8 / T.SIZE) in
             result.remainder ≡ part bytes.old full ((len + 7) / 8 - full) }
         ensures remainder_len { result.remainder_len
@@ -83,8 +87,8 @@ impl<'a, T> BitChunksExactMut<'a, T> {
     /// Returns the next chunk as a mutable slice, or `None` where no chunk is left. Afterwards the iterator is past the
     /// chunk and holds the bytes that were written through the slice, and every other byte is as it was.
     ///
-    /// A caller with a contract of its own uses [`BitChunksExactMut::change_next`], since the prover knows nothing of a
-    /// `&mut` inside an `Option`.
+    /// A caller whose contract states what the bytes hold afterwards uses [`BitChunksExactMut::change_next`]: where a
+    /// `&mut` was inside an `Option`, the prover does not learn what was written through it.
     ///
     /// arrow2 has only the iterator's `next`.
     pub fn next_chunk(&mut self) -> Option<&mut [u8]>

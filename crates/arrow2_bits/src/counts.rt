@@ -32,7 +32,7 @@ pub fn count_zeros_counted(stored: &mut Stored<'_>, offset: usize, len: usize) -
 
 /// Returns how many of the `count` bits from bit `offset + start` on are not set, as [`count_zeros_counted`] does, but
 /// reads at most `len / 16 + 4` bytes. Requires that the `len` bits from bit `offset` on are inside the bytes, that the
-/// `count` bits are among them, and that `unset` of the `len` bits are not set.
+/// `count` bits are among them, and that `unset` is the number of the `len` bits that are not set.
 ///
 /// Where `count` is `len`, reads no byte and returns `unset`. Where `count` is below `len / 2`, counts among the
 /// `count` bits. Else counts among the bits before and after them, and subtracts both counts from `unset`. arrow2 does
@@ -45,11 +45,11 @@ pub fn recount(
     start: usize,
     count: usize,
 ) -> usize
-    // The bits are inside, the part is among them, and their count is `unset`.
+    // The `len` bits are inside, the `count` bits are among them, and `unset` of the `len` bits are not set.
     requires inside { offset + len ≤ 8 * length stored.old.bytes }
     requires among { start + count ≤ len }
     requires unset { unset ≡ falses (part (bits stored.old.bytes) offset len) }
-    // The count of the part; the bytes stay.
+    // The result is the number of the `count` bits that are not set. The bytes are as before.
     ensures zeros { result ≡ falses (part (bits stored.old.bytes) (offset + start) count) }
     ensures bytes { stored.new.bytes ≡ stored.old.bytes }
     // The bytes counted as read: exactly, and at most.
@@ -182,8 +182,8 @@ struct OnesUpTo {
     end: usize,
 }
 
-/// Counts the set bits of the next `words` words of `N` bytes too, unless `times` is 0. Requires that `times` is at
-/// most 1.
+/// Adds to `counted` the set bits of the next `words` words of `N` bytes. Where `times` is 0, returns `counted` as it
+/// is. Requires that `times` is at most 1.
 #[inline(always)]
 fn with_words<T: BitChunk, const N: usize>(
     stored: &mut Stored<'_>,
@@ -198,14 +198,14 @@ fn with_words<T: BitChunk, const N: usize>(
     requires fits { counted.end + N * words * times < 2 ^ 64 }
     requires few { 8 * (counted.end + N * words * times - first) < 2 ^ 64 }
     requires inside { counted.end + N * words * times ≤ length stored.old.bytes }
-    // The bytes up to the end are counted, before and after.
+    // `counted` has the set bits of the bytes from `first` up to its end, and so has the result up to its own end.
     requires from { first ≤ counted.end }
     requires ones { counted.ones + falses (part (bits stored.old.bytes) (8 * first)
         (8 * (counted.end - first))) ≡ 8 * (counted.end - first) }
     ensures ones { result.ones + falses (part (bits stored.old.bytes) (8 * first)
         (8 * (result.end - first))) ≡ 8 * (result.end - first) }
     ensures end { result.end ≡ counted.end + N * words * times }
-    // The bytes stay, and each is counted as read once.
+    // The bytes are as before. Each byte of the words that are counted here is counted as read once.
     ensures bytes { stored.new.bytes ≡ stored.old.bytes }
     ensures reads { stored.new.reads ≡ stored.old.reads + N * words * times }
 {
@@ -233,7 +233,7 @@ fn ones_in_words<T: BitChunk, const N: usize>(
     // The set bits and the unset bits are all bits.
     ensures ones { result + falses (part (bits stored.old.bytes) (8 * first) (8 * (N * words)))
         ≡ 8 * (N * words) }
-    // The bytes stay, and each is counted as read once.
+    // The bytes are as before. Each byte of the words that are counted here is counted as read once.
     ensures bytes { stored.new.bytes ≡ stored.old.bytes }
     ensures reads { stored.new.reads ≡ stored.old.reads + N * words }
 {

@@ -52,8 +52,9 @@ impl<'a> BitmapIter<'a> {
         }
     }
 
-    /// Returns the same iterator as [`BitmapIter::new`], but keeps bit offset and index as one number, so that no item
-    /// costs an addition of both. Requires that the bits are inside the bytes, and that `offset + len` fits a `usize`.
+    /// Returns the same iterator as [`BitmapIter::new`], where `offset + len` fits a `usize`. Keeps bit offset and
+    /// index as one number, so that no item costs an addition of both. Requires that the bits are inside the bytes, and
+    /// that `offset + len` fits a `usize`.
     pub fn within(bytes: &'a [u8], offset: usize, len: usize) -> BitmapIter<'a>
         requires inside { offset + len ≤ 8 * length bytes.now }
         requires fits { offset + len < 2 ^ 64 }

@@ -38,7 +38,8 @@ pub fn is_set(byte: u8, i: usize) -> bool
     requires { i < 8 }
     ensures { result ≡ bit byte i }
 {
-    // In a loop over bits, a shift of 64 bits lets the compiler keep one counter; a shorter one costs a second counter.
+    // Shifts a number of 64 bits: in a loop over bits the compiler then keeps one counter. With a shorter number it
+    // keeps two.
     (u64::from(byte) >> i) & 1 == 1
 }
 
@@ -69,7 +70,7 @@ pub fn get_bit_from(bytes: &[u8], offset: usize, i: usize) -> bool
 }
 
 /// Writes bit `i` of the bytes, and leaves every other bit as it was. Requires that `i` is below eight times the number
-/// of bytes; arrow2's documentation requires `i` below an eighth of that number.
+/// of bytes. arrow2's documentation requires `i` below an eighth of the number of bytes.
 pub fn set_bit(bytes: &mut [u8], i: usize, value: bool)
     requires { i < 8 * length bytes.old }
     ensures { bits bytes.new ≡ slice_set (bits bytes.old) i value }

@@ -4,8 +4,8 @@ ghost use Rattle.std.specs.Prelude.{◌≡◌, ◌+◌};
 use arrow2_counter::Counter;
 use std::marker::Model;
 
-/// Counts the bytes that were read: contracts see the number. In the code it takes no bytes at run time. It cannot be
-/// copied or cloned, since a copy could count a read twice, or leave one out.
+/// Counts the bytes that were read: contracts see the number. It takes no bytes at run time, which no clause states. It
+/// cannot be copied or cloned, since a copy could count a read twice, or leave one out.
 #[derive(Drop)]
 pub struct Reads {
     counter: Counter,

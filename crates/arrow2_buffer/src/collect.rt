@@ -43,10 +43,11 @@ pub(crate) fn collect_items<T: Drop, I: Iterator<Item = T>>(
 /// Appends items of an iterator to a vector while the vector has spare capacity. Returns the vector, and whether the
 /// iterator may yield more.
 fn fill_capacity<T: Drop, I: Iterator<Item = T>>(items: Vec<T>, source: &mut I) -> (Vec<T>, bool)
-    // The iterator can be advanced, and ends.
+    // `next` may be called on the iterator, and it is finite.
     requires can { I.can_next source.old }
     requires ends { IsFinite (I.remaining source.old) }
-    // Where the iterator may yield more, it can still be advanced, ends, and is no further from its end than before.
+    // Where the iterator may yield more, `next` may still be called, the iterator is still finite, and it has no more
+    // steps left than before.
     ensures can { result.1 ≡ true → I.can_next source.new }
     ensures ends { result.1 ≡ true → IsFinite (I.remaining source.new) }
     ensures nearer { result.1 ≡ true →

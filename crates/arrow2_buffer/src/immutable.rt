@@ -175,8 +175,9 @@ impl<T> Buffer<T> {
         lend_unshared(&mut self.storage, start, end)
     }
 
-    /// Changes the items in place by `change` if nobody else shares the storage, and returns whether it changed them.
-    /// No clause states when the result is true. Does not allocate. The items must meet what `change` requires.
+    /// Calls `change` on the items in place if nobody else shares the storage, and returns whether it did. No clause
+    /// states when the result is true. Does not allocate, unless `change` does. Requires that `change` may be called on
+    /// the items.
     ///
     /// arrow2 has [`Buffer::get_mut_slice`] alone.
     pub fn change_slice<F: FnOnce(&mut [T])>(&mut self, change: F) -> bool
@@ -246,8 +247,8 @@ fn lend_unshared<T>(shared: &mut Rc<Bytes<T>>, start: usize, end: usize) -> Opti
     }
 }
 
-/// Changes the items from `start` up to `end` in place by `change` if nobody else shares the storage, and returns
-/// whether it changed them.
+/// Calls `change` on the items from `start` up to `end` in place if nobody else shares the storage, and returns whether
+/// it did.
 fn change_unshared<T, F: FnOnce(&mut [T])>(
     shared: &mut Rc<Bytes<T>>,
     start: usize,
@@ -284,8 +285,8 @@ impl<T: Drop> Buffer<T> {
         Buffer::try_from(Vec::new(alloc))
     }
 
-    /// Returns a buffer of the items of an iterator, in order. Requires that the iterator ends, and that each call of
-    /// its `next` meets the precondition of `next`. Does not read the size hint.
+    /// Returns a buffer of the items of an iterator, in order. Requires that the iterator ends, and that its `next` may
+    /// be called until then. Does not read the size hint.
     ///
     /// Replaces arrow2's `FromIterator`.
     ///

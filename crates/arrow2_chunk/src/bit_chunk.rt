@@ -124,7 +124,7 @@ pub trait BitChunk: PrimInt + NativeType {
     // A word has at least one byte, and at most eight.
     ghost width_bounds: { (8 ≤ WIDTH) × (WIDTH ≤ 64) };
 
-    // The calls of `PrimInt` see the same bits and the same number.
+    // The contracts of `PrimInt` speak of the same width, the same bits and the same number.
     ghost width_law: { bit_len Self.width ≡ WIDTH };
 
     ghost bits_law: { (x : Self) → Self.bits_of x ≡ number x };

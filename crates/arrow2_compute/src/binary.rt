@@ -18,7 +18,7 @@ pub trait Binary: Drop {
     // What contracts see of the array.
     ghost parts: { Self → BinaryParts };
 
-    // The greatest offset.
+    // The greatest value of the offset type.
     ghost GREATEST: { ℕ };
 
     /// The type of the array that grows, which `freeze` turns into this array.
@@ -38,8 +38,8 @@ pub trait Binary: Drop {
         ensures value { result.now ≡ (parts self.now).validity }
         ensures slots { length (valid_items result.now) ≡ slots_between (parts self.now).offsets };
 
-    /// Returns the array of the same slots, over the same storage, none of them null. Does not allocate: in the code it
-    /// fails only if a reference count would overflow, which no clause states.
+    /// Returns the array of the same slots, over the same storage, none of them null. Does not allocate. It fails only
+    /// if a reference count would overflow, which no clause states.
     ///
     /// # Errors
     ///
@@ -71,8 +71,8 @@ pub trait Binary: Drop {
     ///
     /// # Errors
     ///
-    /// `Overflow` exactly if the last offset would pass the greatest one or the length is `usize::MAX`. Otherwise the
-    /// only error is `OutOfMemory`. After an error, `grown` holds the items that it held.
+    /// `Overflow` exactly if the last offset would exceed the maximum of the offset type or the length is `usize::MAX`.
+    /// Otherwise the only error is `OutOfMemory`. After an error, `grown` holds the items that it held.
     fn push_item(grown: &mut Self::Growing, array: &Self, index: usize) -> Result<()>
         requires below { index < length (binary_items (parts array.now)) }
         ensures { AppendsItem GREATEST result (growing grown.old) (growing grown.new)
@@ -83,8 +83,8 @@ pub trait Binary: Drop {
     ///
     /// # Errors
     ///
-    /// `Overflow` exactly if the last offset would pass the greatest one or the new length would pass `usize::MAX`.
-    /// Otherwise the only error is `OutOfMemory`. After an error, `grown` holds the items that it held.
+    /// `Overflow` exactly if the last offset would exceed the maximum of the offset type or the new length would exceed
+    /// `usize::MAX`. Otherwise the only error is `OutOfMemory`. After an error, `grown` holds the items that it held.
     fn push_items(grown: &mut Self::Growing, array: &Self, start: usize, len: usize) -> Result<()>
         requires inside { start + len ≤ length (binary_items (parts array.now)) }
         ensures { AppendsBinary GREATEST result (growing grown.old) (growing grown.new)
@@ -135,7 +135,7 @@ impl<O: Offset> Binary for BinaryArray<O> {
     }
 
     fn like(&self, capacity: usize) -> Result<MutableBinaryArray<O>> {
-        // For the proof alone: that a `usize` counts the offsets, one more than there are items.
+        // For the proof alone: the number of offsets, one more than that of items, fits a `usize`.
         let _ = self.offsets().len();
         let data_type = self.data_type().clone()?;
         MutableBinaryArray::with_capacity_from(self.values().allocator(), data_type, capacity, 0)
@@ -193,7 +193,7 @@ impl<O: Offset> Binary for Utf8Array<O> {
     }
 
     fn like(&self, capacity: usize) -> Result<MutableUtf8Array<O>> {
-        // For the proof alone: that a `usize` counts the offsets, one more than there are items.
+        // For the proof alone: the number of offsets, one more than that of items, fits a `usize`.
         let _ = self.offsets().len();
         let data_type = self.data_type().clone()?;
         MutableUtf8Array::with_capacity_from(self.values().allocator(), data_type, capacity, 0)

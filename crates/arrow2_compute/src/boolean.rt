@@ -120,7 +120,7 @@ pub fn is_not_null<A: Nullable>(array: &A) -> Result<BooleanArray>
     Ok(BooleanArray::new(known, None))
 }
 
-/// Returns, for each item of a validity, whether it is null.
+/// Returns, for each item of an array with this validity, whether it is null.
 fn nulls_of(alloc: Global, validity: &Validity) -> Result<Bitmap>
     ensures items { IfOk result (λ b. items_of b ≡ map not (valid_items validity.now)) }
     ensures only { IfErr result (λ e. e ≡ Error.OutOfMemory) }
@@ -131,7 +131,7 @@ fn nulls_of(alloc: Global, validity: &Validity) -> Result<Bitmap>
     }
 }
 
-/// Returns, for each item of a validity, whether it is not null.
+/// Returns, for each item of an array with this validity, whether it is not null.
 fn known_of(alloc: Global, validity: &Validity) -> Result<Bitmap>
     ensures items { IfOk result (λ b. items_of b ≡ valid_items validity.now) }
     ensures same { IfSome validity.now.bitmap (λ bitmap. IfOk result (λ b. b ≡ bitmap)) }

@@ -50,8 +50,8 @@ pub fn concatenate<T: NativeType>(
 ///
 /// # Errors
 ///
-/// If the slots of all arrays together, null slots too, have more bytes than the greatest offset, or if a `usize`
-/// cannot count the items: `Overflow` or `OutOfMemory`, never `Ok`. Otherwise the only error is `OutOfMemory`.
+/// It fails with `Overflow` or `OutOfMemory` if all slots together, null slots too, have more bytes than an offset of
+/// the arrays can count, or if a `usize` cannot count the items. Otherwise the only error is `OutOfMemory`.
 #[tactic(auto, using(crate::proofs::KernelLoops::joining))]
 pub fn concatenate_binary<A: Binary>(first: &A, others: &[&A]) -> Result<A>
     ensures items { IfOk result (λ a.

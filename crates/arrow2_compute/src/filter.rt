@@ -186,7 +186,7 @@ pub fn filter_binary<A: Binary>(array: &A, mask: &Bitmap) -> Result<A>
         ≡ selection (binary_items (A.parts array.now)) (items_of mask.now)) }
     ensures data_type { IfOk result (λ a. (A.parts a).data_type ≡ (A.parts array.now).data_type) }
     ensures compact { IfOk result (λ a. IsCompact (A.parts a)) }
-    // The bytes of the selected slots, under nulls too.
+    // The number of bytes of the selected slots, of null slots too.
     ensures bytes { IfOk result (λ a. length (buffer_items (A.parts a).values) ≡ sum (selection
         (lengths_of (buffer_items (A.parts array.now).offsets)) (items_of mask.now))) }
     ensures only { IfErr result (λ e. e ≡ Error.OutOfMemory) }

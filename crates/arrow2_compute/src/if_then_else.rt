@@ -23,7 +23,7 @@ use std::convert::TryFrom;
 /// Returns, index by index, the item of `lhs` where the mask is true, and that of `rhs` elsewhere, with the logical
 /// type of `lhs`. Requires that all three have equal lengths.
 ///
-/// Differs from arrow2: the mask is a bitmap, which has no nulls.
+/// Differs from arrow2: the mask is a bitmap, which has no nulls, and the logical types are not compared.
 ///
 /// # Errors
 ///
@@ -127,11 +127,11 @@ fn chosen_bits(mask: &Bitmap, lhs: &Bitmap, rhs: &Bitmap) -> Result<Bitmap>
 ///
 /// # Errors
 ///
-/// If the chosen items together have more bytes than the greatest offset: `Overflow` or `OutOfMemory`, never `Ok`.
-/// Otherwise the only error is `OutOfMemory`.
+/// If the chosen items together have more bytes than an offset of the arrays can count, it fails with `Overflow` or
+/// `OutOfMemory`. Otherwise the only error is `OutOfMemory`.
 #[tactic(auto, using(crate::proofs::ByteCounts::weighed))]
 pub fn if_then_else_binary<A: Binary>(mask: &Bitmap, lhs: &A, rhs: &A) -> Result<A>
-    // The mask has an item for each slot of both arrays.
+    // Both arrays have the length of the mask.
     requires left { length (items_of mask.now) ≡ length (binary_items (A.parts lhs.now)) }
     requires right { length (items_of mask.now) ≡ length (binary_items (A.parts rhs.now)) }
     // The chosen items, the logical type of `lhs`, and how the items are stored.
@@ -141,7 +141,7 @@ pub fn if_then_else_binary<A: Binary>(mask: &Bitmap, lhs: &A, rhs: &A) -> Result
     ensures compact { IfOk result (λ a. IsCompact (A.parts a)) }
     ensures bytes { IfOk result (λ a. length (buffer_items (A.parts a).values) ≡ sum_by item_bytes
         (choice (items_of mask.now) (binary_items (A.parts lhs.now)) (binary_items (A.parts rhs.now)))) }
-    // Whether their bytes fit the greatest offset, and which errors come.
+    // When it fails since an offset cannot count their bytes, and which errors can come.
     ensures overflow { IsErrOf result Error.Overflow → A.GREATEST < sum_by item_bytes
         (choice (items_of mask.now) (binary_items (A.parts lhs.now)) (binary_items (A.parts rhs.now))) }
     ensures fits { OnOk result (sum_by item_bytes (choice (items_of mask.now)

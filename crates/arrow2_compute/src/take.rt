@@ -184,8 +184,8 @@ fn item_at<T: NativeType, I: Index>(array: &PrimitiveArray<T>, index: Option<I>)
 ///
 /// # Errors
 ///
-/// If the taken items together have more bytes than the greatest offset: `Overflow` or `OutOfMemory`, never `Ok`.
-/// Otherwise the only error is `OutOfMemory`.
+/// If the taken items together have more bytes than an offset of the array can count, it fails with `Overflow` or
+/// `OutOfMemory`. Otherwise the only error is `OutOfMemory`.
 #[tactic(auto, using(crate::proofs::ByteCounts::weighed))]
 pub fn take_binary<A: Binary>(array: &A, indices: &[usize]) -> Result<A>
     requires inside { All (λ index. index < length (binary_items (A.parts array.now))) indices.now }
@@ -196,7 +196,7 @@ pub fn take_binary<A: Binary>(array: &A, indices: &[usize]) -> Result<A>
     ensures compact { IfOk result (λ a. IsCompact (A.parts a)) }
     ensures bytes { IfOk result (λ a. length (buffer_items (A.parts a).values) ≡ sum_by item_bytes
         (map (λ index. binary_item (A.parts array.now) index) indices.now)) }
-    // Whether their bytes fit the greatest offset, and which errors come.
+    // When it fails since an offset cannot count their bytes, and which errors can come.
     ensures overflow { IsErrOf result Error.Overflow → A.GREATEST < sum_by item_bytes
         (map (λ index. binary_item (A.parts array.now) index) indices.now) }
     ensures fits { OnOk result (sum_by item_bytes

@@ -56,8 +56,8 @@ pub enum DataType {
     /// Floats of 64 bits.
     Float64,
     /// Points in time, as 64-bit counts of a unit since the start of 1970. The text, if there is one, is the time zone
-    /// in which they are shown: its name, or an offset such as `+07:30`. They are then counted from the start of 1970
-    /// in UTC. Without a text, they have no time zone.
+    /// in which they are shown: its name, or an offset such as `+07:30`. With a text, they are counted from the start
+    /// of 1970 in UTC. Without a text, they have no time zone.
     Timestamp(TimeUnit, Option<String>),
     /// Days since the start of 1970, in 32 bits.
     Date32,
@@ -275,7 +275,7 @@ impl UnionMode {
 
 /// Returns the extension in the metadata of a field: its name, which is the text under `ARROW:extension:name`, and its
 /// metadata, which is the text under `ARROW:extension:metadata` if there is one. Returns `None` where there is no name,
-/// also where there is a text under `ARROW:extension:metadata`.
+/// even if there is a text under `ARROW:extension:metadata`.
 ///
 /// arrow2 returns no `Result`.
 ///

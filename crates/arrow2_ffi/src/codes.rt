@@ -1,6 +1,6 @@
 //! The codes that an export returns. With any code but [`ARROW2_OK`] nothing was written, with one exception: a check
-//! that has an argument `index` or `slot` writes the first fault there, with `ARROW2_SPEC_FALLING`, `ARROW2_PAST`,
-//! `ARROW2_UTF8` or `ARROW2_INDEX`.
+//! that returns `ARROW2_SPEC_FALLING`, `ARROW2_PAST`, `ARROW2_UTF8` or `ARROW2_INDEX`, and has an argument `index` or
+//! `slot`, writes there the position of the first fault.
 
 /// The call succeeded.
 pub const ARROW2_OK: u32 = 0;
@@ -30,7 +30,7 @@ pub const ARROW2_SPEC_FALLING: u32 = 7;
 /// The number of nulls is not the declared one.
 pub const ARROW2_NULLS: u32 = 8;
 
-/// An offset is greater than the number of bytes or child items that the offsets index.
+/// An offset is greater than the number of bytes, or of child items, that the offsets point into.
 pub const ARROW2_PAST: u32 = 9;
 
 /// The bytes of a slot are not UTF-8.

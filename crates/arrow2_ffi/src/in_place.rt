@@ -27,7 +27,8 @@ fn words(bits: Bits<'_>, len: usize) -> OneList<BitChunks<'_, u64>>
 }
 
 /// Replaces each word of the first `len` bits by the result of `op` for the word and its row of words. Requires that
-/// `bytes` has exactly the bytes that `len` bits need, and that the rows have `len` items.
+/// `bytes` has exactly the bytes that `len` bits need, that each list of the rows has `len` items, and that `op` may be
+/// called with all words.
 fn assign_outputs<S: WordRows<u64>, F: Fn(u64, S::Row) -> u64>(
     bytes: &mut [u8],
     len: usize,
@@ -144,7 +145,7 @@ pub(crate) fn write_four<const T: u16>(
 }
 
 /// Overwrites `out`, from bit 0 on, with the first `len` bits. Requires that they are inside their bytes, and that
-/// `out` has exactly the bytes that they need. The function is inlined: for 64 bytes a call would take a fifth of the
+/// `out` has exactly the bytes that they need. The function is inlined: for 64 bytes a call would be a fifth of the run
 /// time.
 #[inline(always)]
 pub(crate) fn copy(bits: Bits<'_>, len: usize, out: &mut [u8])
@@ -160,8 +161,8 @@ pub(crate) fn copy(bits: Bits<'_>, len: usize, out: &mut [u8])
 }
 
 /// Overwrites `out`, from bit 0 on, with the first `len` bits, word by word. Requires that they are inside their bytes,
-/// and that `out` has exactly the bytes that they need. The function is not inlined: `copy` would save the registers
-/// that it needs also where it copies bytes.
+/// and that `out` has exactly the bytes that they need. The function is not inlined: else `copy` would save the
+/// registers of this loop also where it copies whole bytes.
 #[inline(never)]
 fn copy_words(bits: Bits<'_>, len: usize, out: &mut [u8])
     requires inside { HasBits bits len }

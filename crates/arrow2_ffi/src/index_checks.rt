@@ -8,7 +8,8 @@ use crate::codes::{ARROW2_INDEX, ARROW2_OK, ARROW2_RANGE};
 use crate::validities::{covers_items, is_valid};
 use arrow2_index::Index;
 
-/// Checks that each item is null or an index below `items`. Writes to `slot` the first item that is neither.
+/// Checks that each item is null or an index below `items`. Writes to `slot` the position of the first item that is
+/// neither.
 pub(crate) fn check<I: Index>(
     indices: &[I],
     validity: Option<Bits<'_>>,
@@ -30,7 +31,8 @@ pub(crate) fn check<I: Index>(
     }
 }
 
-/// Returns the first item that is neither null nor an index below `items`.
+/// Returns the position of the first item that is neither null nor an index below `items`. Requires that the validity,
+/// if there is one, has a bit for each index.
 fn first_outside<I: Index>(indices: &[I], validity: Option<Bits<'_>>, items: usize) -> Option<usize>
     requires covers { CoversItems (validity_bits validity) (length indices.now) }
     ensures { FindsFirstOutside result (map I.value indices.now) (validity_bits validity.entry) items }

@@ -61,7 +61,8 @@ fn first_falling<O: Offset>(offsets: &[O]) -> usize
     offsets.len()
 }
 
-/// Returns the index of the first offset that is above `items`. Requires that the last offset is above `items`.
+/// Returns the index of the first offset that is above `items`. Requires that the numbers are offsets, and that the
+/// last one is above `items`.
 fn first_past<O: Offset>(offsets: &[O], items: usize) -> usize
     requires valid { AreOffsets (map O.value offsets.now) }
     requires past { items < last_of (map O.value offsets.now) }

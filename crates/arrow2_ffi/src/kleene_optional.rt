@@ -100,8 +100,8 @@ pub extern "C" fn arrow2_or_kleene_optional(
     write::<OR_VALUES, OR_KNOWN, OR_KNOWN_PAIRED>(left, right, length, values, validity)
 }
 
-/// Writes the values by table `VALUES` of two inputs, and the validity as `write_known` does. Requires that table
-/// `PAIRED` agrees with table `KNOWN` where one item is not null.
+/// Writes the values by table `VALUES` of two inputs, and the validity as `write_known` does, which states what is
+/// required of the tables.
 fn write<const VALUES: u8, const KNOWN: u16, const PAIRED: u8>(
     left: Side<'_>,
     right: Side<'_>,
@@ -134,8 +134,9 @@ fn is_inside(side: Side<'_>, length: usize) -> bool
 
 /// Writes which results are not null. Where both sides have a validity, uses table `KNOWN` of both values and
 /// validities. Where only one side has a validity, uses table `PAIRED`: its inputs are value and validity of that side,
-/// then the value of the other side. Where neither has one, no result is null. Requires that `PAIRED` agrees with
-/// `KNOWN` where one item is not null.
+/// then the value of the other side. Where neither has one, no result is null. Requires that the output of `PAIRED` is
+/// that of `KNOWN` for a validity of the other side that is true, and that the output of `KNOWN` is true where both
+/// validities are.
 fn write_known<const KNOWN: u16, const PAIRED: u8>(
     out: &mut [u8],
     length: usize,

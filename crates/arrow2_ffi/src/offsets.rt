@@ -36,9 +36,9 @@ pub extern "C" fn arrow2_offsets32_lengths(offsets: &[i32], out: &mut [usize]) -
     lengths(offsets, out)
 }
 
-/// Writes the length of each slot to `out`, as `arrow2_offsets32_lengths` does, and tests no offset. Requires that the
-/// numbers are offsets, as `arrow2_offsets32_check` tests, so there is at least one. With other numbers the behaviour
-/// is undefined: memory outside `offsets` may be read.
+/// Writes the length of each slot to `out`, as `arrow2_offsets32_lengths` does, and tests no offset. Requires at
+/// least one number, and that `arrow2_offsets32_check` returns `ARROW2_OK` for the numbers. With other numbers the
+/// behaviour is undefined: memory outside `offsets` may be read.
 ///
 /// Returns `ARROW2_LENGTH` exactly where the number of items of `out` is not that of `offsets` minus 1.
 #[unsafe(no_mangle)]
@@ -82,9 +82,9 @@ pub extern "C" fn arrow2_offsets32_rebase(offsets: &[i32], from: usize, out: &mu
     rebase(offsets, from, out)
 }
 
-/// Fills `out` with offsets of 32 bits, as `arrow2_offsets32_rebase` does, and tests no offset. Requires that the
-/// numbers are offsets, as `arrow2_offsets32_check` tests, so there is at least one. With other numbers the behaviour
-/// is undefined: memory outside `offsets` may be read.
+/// Fills `out` with offsets of 32 bits, as `arrow2_offsets32_rebase` does, and tests no offset. Requires at
+/// least one number, and that `arrow2_offsets32_check` returns `ARROW2_OK` for the numbers. With other numbers the
+/// behaviour is undefined: memory outside `offsets` may be read.
 ///
 /// Returns `ARROW2_LENGTH` exactly where `out` has no item, else `ARROW2_RANGE` exactly where `from` plus the number of
 /// items of `out` is above that of `offsets`.
@@ -124,9 +124,9 @@ pub extern "C" fn arrow2_offsets64_lengths(offsets: &[i64], out: &mut [usize]) -
     lengths(offsets, out)
 }
 
-/// Writes the length of each slot to `out`, as `arrow2_offsets64_lengths` does, and tests no offset. Requires that the
-/// numbers are offsets, as `arrow2_offsets64_check` tests, so there is at least one. With other numbers the behaviour
-/// is undefined: memory outside `offsets` may be read.
+/// Writes the length of each slot to `out`, as `arrow2_offsets64_lengths` does, and tests no offset. Requires at
+/// least one number, and that `arrow2_offsets64_check` returns `ARROW2_OK` for the numbers. With other numbers the
+/// behaviour is undefined: memory outside `offsets` may be read.
 ///
 /// Returns `ARROW2_LENGTH` exactly where the number of items of `out` is not that of `offsets` minus 1.
 #[unsafe(no_mangle)]
@@ -170,9 +170,9 @@ pub extern "C" fn arrow2_offsets64_rebase(offsets: &[i64], from: usize, out: &mu
     rebase(offsets, from, out)
 }
 
-/// Fills `out` with offsets of 64 bits, as `arrow2_offsets64_rebase` does, and tests no offset. Requires that the
-/// numbers are offsets, as `arrow2_offsets64_check` tests, so there is at least one. With other numbers the behaviour
-/// is undefined: memory outside `offsets` may be read.
+/// Fills `out` with offsets of 64 bits, as `arrow2_offsets64_rebase` does, and tests no offset. Requires at
+/// least one number, and that `arrow2_offsets64_check` returns `ARROW2_OK` for the numbers. With other numbers the
+/// behaviour is undefined: memory outside `offsets` may be read.
 ///
 /// Returns `ARROW2_LENGTH` exactly where `out` has no item, else `ARROW2_RANGE` exactly where `from` plus the number of
 /// items of `out` is above that of `offsets`.

@@ -13,7 +13,7 @@ use arrow2_walks::{BitCursor, find_bit};
 /// are full or no run is left. Writes to `count` how many runs it wrote, and to `at` where the next call goes on. When
 /// `count` is below the length of the slices, all runs have been found. With slices of length 0 that never happens:
 /// `count` is 0 then, and `at` may stay as it was. Two things are not specified: what the slices hold from `count` on,
-/// and, where they are full, which index `at` is between the last run written and the next run.
+/// and, where they are full, the exact value of `at`: it is between the end of the last run written and the next run.
 ///
 /// Returns `ARROW2_RANGE` exactly where the bits are not inside, or `at` is above `length`; else `ARROW2_LENGTH`
 /// exactly where `starts` and `lengths` differ in length.

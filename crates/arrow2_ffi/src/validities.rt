@@ -25,7 +25,8 @@ pub(crate) fn covers_items(validity: Option<Bits<'_>>, len: usize) -> bool
     }
 }
 
-/// Returns whether item `index` of `len` is not null.
+/// Returns whether item `index` of `len` is not null. Requires that `index` is below `len`, and that the validity, if
+/// there is one, has a bit for each item.
 pub(crate) fn is_valid(validity: Option<Bits<'_>>, index: usize, len: usize) -> bool
     requires covers { CoversItems (validity_bits validity) len }
     requires below { index < len }

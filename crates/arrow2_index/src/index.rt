@@ -41,7 +41,7 @@ pub trait Index: NativeType + Ord + AddAssign + Sub<Self, Output = Self> + One +
         ensures { Self.value result ≡ Self.value self +ℤ pos 1 };
 
     /// Returns the iterator from `start` up to the number before `end`, or `None` where `start` or `end` does not fit
-    /// this type. Requires that `start` is at most `end`, which arrow2 tests after both conversions.
+    /// this type. Requires that `start` is at most `end`. arrow2 asserts this after both conversions.
     final fn range(start: usize, end: usize) -> Option<IndexRange<Self>>
         requires { start ≤ end }
         ensures some { IfSome result (λ range. range ≡ integers (pos start) (pos end)) }
@@ -52,7 +52,7 @@ pub trait Index: NativeType + Ord + AddAssign + Sub<Self, Output = Self> + One +
         Some(IndexRange::new(start, end))
     }
 
-    // The bytes of a number are the digits of its value: in little-endian order, and in big-endian order.
+    // The bytes of a number are the digits of its value to the base 256: the lowest first, and the highest first.
     ghost digits_law: { (x : Self) → Self.le_digits x ≡ digits Self.SIZE (Self.value x) };
 
     ghost be_digits_law: { (x : Self) → Self.be_digits x ≡ reverse (digits Self.SIZE (Self.value x)) };
@@ -295,6 +295,7 @@ impl<I: Index> IndexRange<I> {
     }
 }
 
+/// Yields the numbers from the lowest on.
 #[tactic(auto, using(crate::proofs::Ranges::ranges))]
 impl<I: Index> Iterator for IndexRange<I> {
     type Item = I;

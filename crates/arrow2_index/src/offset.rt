@@ -11,24 +11,24 @@ pub trait Offset: Index {
     // Whether the offsets have 64 bits.
     ghost IS_LARGE: { Bool };
 
-    // The greatest offset.
+    // The greatest value of the type.
     ghost MAX: { ℕ };
 
     /// Whether the offsets have 64 bits.
     const IS_LARGE: bool;
 
-    /// The greatest offset.
+    /// The greatest value of the type. Not in arrow2.
     const MAX: usize;
 
-    /// Returns `sum` as an offset. Where `sum` is above the greatest offset, the result is unspecified, so a loop that
-    /// adds lengths can test its last sum alone. Not in arrow2.
+    /// Returns `sum` as an offset. Where `sum` is above `MAX`, the result is unspecified. A loop that adds up lengths
+    /// may call it with each sum, and compare only the last sum with `MAX`. Not in arrow2.
     fn from_low_bits(sum: u128) -> Self
         ensures { sum ≤ Self.MAX → Self.value result ≡ pos sum };
 
-    // A natural number is an offset exactly if it is at most the greatest one.
+    // A natural number is a value of the type exactly if it is at most `MAX`.
     ghost max_law: { (n : ℕ) → Self.fits (pos n) ↔ (n ≤ MAX) };
 
-    // A number that is an offset is a `usize`, and so is the sum of two.
+    // An offset is below 2⁶³, so a `usize` holds it, and also the sum of two.
     ghost max_size_law: { (n : ℕ) → Self.fits (pos n) → n < 2 ^ 63 };
 }
 

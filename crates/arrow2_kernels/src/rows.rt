@@ -24,15 +24,16 @@ pub trait WordRows<B: BitChunk>: Drop {
     // All lists have equal lengths.
     ghost same_lengths: { Self → Type 0 };
 
-    /// Returns the next row, or `None` where fewer items are left than a word has.
+    /// Returns the next row, or `None` where fewer items are left than a word has. Requires that all lists have equal
+    /// lengths.
     fn next_row(&mut self) -> Option<Self::Row>
         requires { same_lengths self.old }
         ensures same_lengths { same_lengths self.new }
         ensures row { GivesRow B.WIDTH words (len self.old) (row_at self.old) result
             (len self.new) (row_at self.new) };
 
-    /// Returns the row of the remaining items, with each word filled with false. Requires that fewer items remain than
-    /// a word has.
+    /// Returns the row of the remaining items. Each word has the items of its list, and false above them. Requires that
+    /// all lists have equal lengths, and that fewer items remain than a word has.
     fn rest_row(&self) -> Self::Row
         requires same_lengths { same_lengths self.now }
         requires short { len self.now < B.WIDTH }
@@ -40,7 +41,7 @@ pub trait WordRows<B: BitChunk>: Drop {
         ensures fits { AreWords B.WIDTH (words result) };
 }
 
-/// Rows of no list: empty rows, for `left` items.
+/// Rows of no list: one row without words for each full word of `left` items.
 #[derive(Drop)]
 pub struct NoList {
     /// The number of items still to come.
@@ -96,7 +97,7 @@ impl<B: BitChunk, I: BitChunkIterExact<B> + Drop> WordRows<B> for OneList<I> {
     }
 }
 
-/// Rows of the lists of two sides, zipped: a row of the left side, then a row of the right side.
+/// Rows of two sides, zipped: each row has the words of the left side, then those of the right side.
 #[derive(Drop)]
 pub struct ZipRows<L, R> {
     /// The lists of the left side, whose words come first in a row.
@@ -127,7 +128,8 @@ impl<B: BitChunk, L: WordRows<B>, R: WordRows<B>> WordRows<B> for ZipRows<L, R> 
     }
 }
 
-/// Rows of two lists, read by words of 64 bits, as one type. Two pairs, zipped, give the rows of four lists.
+/// Rows of two lists, read by words of 64 bits: a type without parameters. Two pairs, zipped, give the rows of four
+/// lists.
 #[derive(Drop)]
 pub struct Pair<'a> {
     /// The lists.

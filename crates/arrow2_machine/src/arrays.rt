@@ -110,7 +110,7 @@ fn or_kleene(
 ///
 /// # Errors
 ///
-/// `Kind`, or else `Length`.
+/// `Kind` if a slot holds no boolean array, else `Length` if the lengths differ.
 fn two_boolean_arrays(
     slots: &[Slot; 16],
     first: SlotIndex,

@@ -90,7 +90,7 @@ fn new_bitmap(slots: &[Slot; 16], kernel: Kernel) -> Result<Bitmap, CommandError
 ///
 /// # Errors
 ///
-/// `Kind`, or else `Length`.
+/// `Kind` if a slot holds no frozen bitmap, else `Length` if the lengths differ.
 pub(crate) fn two_bitmaps(
     slots: &[Slot; 16],
     first: SlotIndex,
@@ -113,7 +113,7 @@ pub(crate) fn two_bitmaps(
 ///
 /// # Errors
 ///
-/// `Kind`, or else `Length`.
+/// `Kind` if a slot holds no frozen bitmap, else `Length` if the lengths differ.
 fn three_bitmaps(
     slots: &[Slot; 16],
     first: SlotIndex,
@@ -141,7 +141,7 @@ fn three_bitmaps(
 ///
 /// # Errors
 ///
-/// `Kind`, or else `Length`.
+/// `Kind` if a slot holds no frozen bitmap, else `Length` if the lengths differ.
 fn four_bitmaps(
     slots: &[Slot; 16],
     first: SlotIndex,
@@ -213,7 +213,7 @@ impl Slot {
     ///
     /// # Errors
     ///
-    /// `Kind`, or else `Length`. They change nothing.
+    /// `Kind` if this slot holds no growing bitmap, else `Length` if the lengths differ. They change nothing.
     fn assign_binary(
         &mut self,
         table: Below<16>,

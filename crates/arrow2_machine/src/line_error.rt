@@ -76,8 +76,8 @@ impl<T: Drop> From<AllocFailed<T>> for CommandError {
 }
 
 /// `Overflow` becomes `LineError::Overflow`. `InvalidArgumentError` and `OutOfSpec` become `LineError::Range`.
-/// `OutOfMemory` stays `OutOfMemory`. The four others become `OutOfMemory` too; in the code no call of a command returns
-/// them.
+/// `OutOfMemory` stays `OutOfMemory`. The other four become `OutOfMemory` too; in the code no call that a
+/// command makes returns them.
 impl From<Error> for CommandError {
     ghost use Rattle.arrow2_machine.specs.Outcomes.{command_error};
 

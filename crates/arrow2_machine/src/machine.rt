@@ -15,7 +15,7 @@ use std::alloc::{AllocError, Global};
 use std::array;
 use std::marker::Model;
 
-/// Sixteen slots. In contracts their value is the list of what they hold in the machine of lists.
+/// Sixteen slots. Contracts see a list: for each slot what it holds, as plain lists (`SlotValue`).
 #[derive(Drop)]
 pub struct Machine {
     slots: [Slot; 16],

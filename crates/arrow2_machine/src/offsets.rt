@@ -172,8 +172,8 @@ impl Slot {
         }
     }
 
-    /// Appends the text of the lengths of frozen offsets, with `null` for each slot where the frozen bitmap of
-    /// `validity` is false.
+    /// Appends the lengths of frozen offsets as text. Where an item of the frozen bitmap in `validity` is false, writes
+    /// `null` in place of the length.
     ///
     /// # Errors
     ///

@@ -52,7 +52,7 @@ pub(crate) fn write_items(items: BitmapIter<'_>, out: &mut Vec<u8>) -> Result<()
     Ok(())
 }
 
-/// Appends the digits of a number without its sign: no offset has one.
+/// Appends the digits of the absolute value of a number. Offsets are never negative.
 fn write_magnitude(number: &i32, out: &mut Vec<u8>) -> Result<(), AllocError>
     ensures { OnOk result (out.new.items ≡ out.old.items ++ decimal (unsigned_abs number.now)) }
 {
@@ -133,7 +133,8 @@ fn write_listed(number: usize, first: bool, out: &mut Vec<u8>) -> Result<(), All
     write_number(number, out)
 }
 
-/// Appends the numbers of the words of a list of items. Bits of the last word past the items are 0.
+/// Appends each word of a list of items as a decimal number. Bits of the last word past the items are 0. Requires that
+/// `number` may be called with each word and returns its value.
 pub(crate) fn write_words<T: BitChunk, F: Fn(T) -> usize>(
     chunks: BitChunks<'_, T>,
     number: F,

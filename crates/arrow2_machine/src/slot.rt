@@ -24,7 +24,7 @@ pub(crate) enum Contents {
     Array(BooleanArray),
 }
 
-/// A slot. In contracts its value is what it holds in the machine of lists.
+/// A slot. Contracts see what it holds, as plain lists (`SlotValue`).
 #[derive(Drop)]
 pub(crate) struct Slot {
     pub(crate) contents: Contents,

@@ -82,7 +82,7 @@ impl Slot {
         }
     }
 
-    /// Appends the numbers of the words of a frozen bitmap. Bits of the last word past the items are 0.
+    /// Appends each word of a frozen bitmap as a decimal number. Bits of the last word past the items are 0.
     ///
     /// # Errors
     ///

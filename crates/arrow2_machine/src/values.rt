@@ -1,4 +1,4 @@
-//! The commands on values of any type: the effect of each on its slots, and its reply.
+//! The commands on values of several types: the effect of each on its slots, and its reply.
 ghost use Rattle.std.specs.Prelude.{◌≡◌};
 ghost use Rattle.arrow2_machine.specs.ValueOutcomes.{after_copy, are_equal, value_outcome};
 ghost use Rattle.arrow2_machine.specs.Outcomes.{Gives, Carries};

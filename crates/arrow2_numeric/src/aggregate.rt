@@ -15,7 +15,8 @@ use arrow2_chunk::BitChunkOnes;
 use arrow2_primitive::PrimitiveArray;
 use arrow2_types::NativeType;
 
-/// The greatest number of values that [`sum_of_block`] takes: the sum of their halves fits 64 bits.
+/// The greatest number of values that [`sum_of_block`] takes. For so many, the sum of the upper halves fits an `i64`,
+/// and the sum of the lower halves, of 32 bits each, fits a `u64`.
 const BLOCK: usize = 1 << 31;
 
 /// A native type of whole numbers of at most 64 bits. The sum of the values of any slice fits an `i128`.
@@ -29,8 +30,8 @@ pub trait WholeNumber: NativeType {
         ensures low { negsuc (2 ^ 63 - 1) ≤ℤ result }
         ensures high { result ≤ℤ pos (2 ^ 64 - 1) };
 
-    /// Returns the number of values. It is below 2⁶³, since each value takes a byte of memory or more. [`sum`] calls it
-    /// in place of `len`, since its proof needs this bound.
+    /// Returns the number of values. It is below 2⁶³, since each value takes a byte of memory or more. The functions
+    /// below that add the values call it in place of `len`, since their proofs need this bound.
     fn count(values: &[Self]) -> usize
         ensures value { result ≡ length values.now }
         ensures few { result < 2 ^ 63 };
@@ -173,7 +174,7 @@ fn sum_of_block<T: WholeNumber>(values: &[T]) -> i128
     i128::from(sums.0) * (1 << 32) + i128::from(sums.1)
 }
 
-/// Returns sums of upper and of lower halves, with those of one more number.
+/// Adds the upper half of `number` to the first of `sums`, and its lower half to the second. Returns both.
 fn with_halves(sums: (i64, u64), number: i128) -> (i64, u64)
     requires low { negsuc (2 ^ 63 - 1) ≤ℤ number }
     requires high { number ≤ℤ pos (2 ^ 64 - 1) }
@@ -190,7 +191,7 @@ fn with_halves(sums: (i64, u64), number: i128) -> (i64, u64)
     (sums.0 + upper, sums.1 + lower)
 }
 
-/// Returns the halves of a number of 64 bits: the upper one, rounded down, and the lower one, of 32 bits.
+/// Returns the quotient of a number and 2³², rounded down, and its lowest 32 bits.
 fn halves(number: i128) -> (i64, u64)
     requires low { negsuc (2 ^ 63 - 1) ≤ℤ number }
     requires high { number ≤ℤ pos (2 ^ 64 - 1) }
@@ -202,7 +203,7 @@ fn halves(number: i128) -> (i64, u64)
     (upper as i64, lower as u64)
 }
 
-/// Returns the sum of all valid values. Requires that both have equal lengths.
+/// Returns the sum of all valid values. Requires that values and validity have equal lengths.
 fn sum_of_valid<T: WholeNumber>(values: &[T], validity: &Bitmap) -> i128
     requires same_length { length (items_of validity.now) ≡ length values.now }
     ensures { result ≡ sum_of T.integer (selection values.now (items_of validity.now)) }
@@ -217,7 +218,7 @@ fn sum_of_valid<T: WholeNumber>(values: &[T], validity: &Bitmap) -> i128
     total
 }
 
-/// Returns the sum of the values at whose index the bit of the word is set. Requires at most 64 values.
+/// Returns the sum of the values whose bit in `word` is set. Requires at most 64 values.
 #[tactic(auto, using(crate::proofs::Sums::sums, crate::proofs::Selecting::selecting))]
 fn sum_of_word<T: WholeNumber>(values: &[T], word: u64) -> i128
     requires few { length values.now ≤ 64 }
@@ -236,8 +237,8 @@ fn sum_of_word<T: WholeNumber>(values: &[T], word: u64) -> i128
     total
 }
 
-/// Returns the sum of two numbers, which fits. In a loop, the prover takes the result of a call for a number, and that
-/// of `+` for its bits.
+/// Returns the sum of two numbers, which fits. It is a function for the proof alone: in a loop, the prover treats the
+/// result of a call as a number, and the result of `+` as bits.
 fn exact_sum(total: i128, more: i128) -> i128
     requires { FitsSigned w128 (total +ℤ more) }
     ensures { result ≡ total +ℤ more }
@@ -299,8 +300,8 @@ pub fn max<T: NativeType + Ord>(array: &PrimitiveArray<T>) -> Option<T>
     best_item::<T, Greater>(array)
 }
 
-/// Returns the value that the choice keeps of all items that are not null, or `None` where each item is null. Requires
-/// that the choice is associative.
+/// Combines the items that are not null by `C::of_two`, from the first to the last. Returns `None` where each item is
+/// null. Requires that the choice is associative.
 fn best_item<T: NativeType, C: Choice<T>>(array: &PrimitiveArray<T>) -> Option<T>
     requires associative { (x y z : T) → C.kept (C.kept x y) z ≡ C.kept x (C.kept y z) }
     ensures { result ≡ best_from C.kept None (non_null_values (primitive_items array.now)) }
@@ -312,8 +313,8 @@ fn best_item<T: NativeType, C: Choice<T>>(array: &PrimitiveArray<T>) -> Option<T
     }
 }
 
-/// Returns the value that the choice keeps of these values, or `None` where there is none. Requires that the choice is
-/// associative. Reads both halves at once: the processor fetches two streams of values faster than one.
+/// Combines the values by `C::of_two`, from the first to the last. Returns `None` where there is none. Requires that
+/// the choice is associative. Reads both halves at once: the processor fetches two streams of values faster than one.
 fn best_of_halves<T: NativeType, C: Choice<T>>(values: &[T]) -> Option<T>
     requires associative { (x y z : T) → C.kept (C.kept x y) z ≡ C.kept x (C.kept y z) }
     ensures { result ≡ best_from C.kept None values.now }
@@ -333,8 +334,8 @@ fn best_of_halves<T: NativeType, C: Choice<T>>(values: &[T]) -> Option<T>
     best_of::<T, C>(Some(C::of_two(best, other)), &back[front.len()..])
 }
 
-/// Returns the value that the choice keeps of all valid values, or `None` where none is valid. Requires that both have
-/// equal lengths.
+/// Combines the valid values by `C::of_two`, from the first to the last. Returns `None` where none is valid. Requires
+/// that values and validity have equal lengths.
 fn best_valid<T: NativeType, C: Choice<T>>(values: &[T], validity: &Bitmap) -> Option<T>
     requires same_length { length (items_of validity.now) ≡ length values.now }
     ensures { result ≡ best_from C.kept None (selection values.now (items_of validity.now)) }
@@ -347,8 +348,8 @@ fn best_valid<T: NativeType, C: Choice<T>>(values: &[T], validity: &Bitmap) -> O
     best
 }
 
-/// Returns the value that the choice keeps of `best`, if there is one, and of the values at whose index the bit of the
-/// word is set. Requires at most 64 values.
+/// Combines the values whose bit in `word` is set by `C::of_two`, from the first to the last. If there is a `best`, it
+/// comes before them. Requires at most 64 values.
 #[tactic(auto, using(crate::proofs::Best::best, crate::proofs::Selecting::selecting))]
 fn best_of_word<T: NativeType, C: Choice<T>>(best: Option<T>, values: &[T], word: u64) -> Option<T>
     requires few { length values.now ≤ 64 }

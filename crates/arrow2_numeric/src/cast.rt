@@ -15,9 +15,9 @@ use num_traits::PrimInt;
 use std::alloc::Global;
 use std::rc::Rc;
 
-/// Returns an array of the same numbers with values of type `O`. An item of the result is null where the item of
-/// `array` is null, or where its number does not fit `O`. The result has a validity bitmap exactly if an item of it is
-/// null. Requires that the physical type of `data_type` is that of `O`.
+/// Casts each item to `O`. An item of the result is null where the item of `array` is null, or where its value does not
+/// fit `O`. The result has a validity bitmap exactly if an item of it is null. Requires that the physical type of
+/// `data_type` is that of `O`.
 ///
 /// Differs from arrow2, which takes floats too.
 ///
@@ -44,16 +44,17 @@ pub fn primitive_to_primitive<I: NativeType + PrimInt, O: NativeType + PrimInt>(
     numbers.freeze()
 }
 
-/// Returns an array of the same numbers with values of type `O`. An item of the result is null where the item of
-/// `array` is null. The result has a validity bitmap exactly if an item of it is null. Requires that the physical type
-/// of `data_type` is that of `O`.
+/// Casts each item to `O`, or fails if the value of an item does not fit. An item of the result is null where the item
+/// of `array` is null. The result has a validity bitmap exactly if an item of it is null. Requires that the physical
+/// type of `data_type` is that of `O`.
 ///
-/// Reads the numbers twice: first it checks that all of them fit, then it allocates and casts. arrow2 has no such call.
+/// Reads the values twice: first it checks that all of them fit, then it allocates and casts. arrow2 has no such call.
 ///
 /// # Errors
 ///
-/// `InvalidArgumentError` exactly if the number of an item does not fit `O`, or `OutOfMemory` if the message cannot be
-/// allocated; the message has the index of the first such item. Otherwise the only error is `OutOfMemory`.
+/// If the value of an item does not fit `O`, it fails: with `InvalidArgumentError`, whose message has the index of the
+/// first such item, or with `OutOfMemory` if the message cannot be allocated. Otherwise the only error is
+/// `OutOfMemory`.
 pub fn try_primitive_to_primitive<I: NativeType + PrimInt, O: NativeType + PrimInt>(
     array: &PrimitiveArray<I>,
     data_type: Rc<DataType>,

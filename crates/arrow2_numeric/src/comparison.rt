@@ -1,5 +1,5 @@
-//! Comparisons of items. A result is null where an item is null. It has a validity bitmap exactly where an input has
-//! one.
+//! Comparisons of items. An item of the result is null where an input item is null. The result has a validity bitmap
+//! exactly where an input has one.
 ghost use Rattle.std.specs.Prelude.{◌≡◌, ◌<◌, [], Bool, length, map, not, option_map, IfOk, IfErr, ℕ, false, slice_index_or, ◌↔◌, IsNone};
 ghost use Rattle.std.specs.Ordering.{partial_lt, partial_le, partial_gt, partial_ge};
 ghost use Rattle.std.specs.Simd.Lanes.{zip2};
@@ -15,10 +15,10 @@ use arrow2_bitmap::Bitmap;
 use arrow2_primitive::PrimitiveArray;
 use arrow2_types::{Error, NativeType, Result};
 
-/// Returns, item by item, the result of `test` for the value, and null where the item is null. The contract states this
-/// where the contract of `test` fixes its result for each value; else it states the length, the validity, and that each
-/// stored value is a result that the contract of `test` allows. Requires that `test` may be called with each stored
-/// value, also under a null.
+/// Returns, item by item, the result of `test` for the value, and null where the item is null. If the contract of
+/// `test` fixes its result for each value, the clause `items` states exactly this. The other clauses hold for any
+/// `test`: they state the length, the validity, and that each stored boolean is one that `test` may return. Requires
+/// that `test` may be called with each stored value, also under a null.
 ///
 /// # Errors
 ///
@@ -31,7 +31,7 @@ pub fn compare_each<T: NativeType, F: Fn(&T) -> bool>(
     ensures items { (outcome : T → Bool) →
         ReturnsOnEach (buffer_items array.now.values) (F.post test) outcome →
         IfOk result (λ a. boolean_items a ≡ map (option_map outcome) (primitive_items array.now)) }
-    // For any `test`: each stored value of the result is one that the contract of `test` allows at its index.
+    // For any `test`: the boolean stored at an index is one that `test` may return for the value there.
     ensures results { IfOk result (λ a. (index : ℕ) → index < length (buffer_items array.now.values) →
         IsResultAt (buffer_items array.now.values) (F.post test) index (slice_index_or (items_of a.values) index false)) }
     ensures len { IfOk result (λ a. length (items_of a.values) ≡ length (buffer_items array.now.values)) }

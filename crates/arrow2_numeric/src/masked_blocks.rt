@@ -1,4 +1,4 @@
-//! Values in blocks, each with the word of a mask.
+//! Values in blocks, and with each block the items of a mask for its values.
 ghost use Rattle.std.specs.Prelude.{◌≡◌, [], length, IfSome, IsNone};
 ghost use Rattle.arrow2_model.specs.Storage.{items_of};
 ghost use Rattle.arrow2_numeric.specs.MaskedBlocks.{BlocksLeft, IsNextBlock, selected_left};
@@ -10,8 +10,8 @@ use arrow2_types::NativeType;
 use std::marker::Model;
 use std::mem;
 
-/// An iterator over values in blocks of 64, each with the word of a mask that selects values of the block. The last
-/// block may have fewer values. Contracts see the values still to come, and the items of the mask for these.
+/// Yields values in blocks of 64, and with each block a word: the items of a mask for its values. The last block may
+/// have fewer values. Contracts see the values still to come, and the items of the mask for these.
 #[derive(Drop)]
 pub struct MaskedBlocks<'a, T: NativeType> {
     values: &'a [T],
@@ -33,7 +33,7 @@ impl<'a, T: NativeType> Model for MaskedBlocks<'a, T> {
 }
 
 impl<'a, T: NativeType> MaskedBlocks<'a, T> {
-    /// Returns an iterator over all values. Requires that values and mask have equal lengths.
+    /// Begins at the first value. Requires that values and mask have equal lengths.
     pub fn new(values: &'a [T], mask: &'a Bitmap) -> MaskedBlocks<'a, T>
         requires same_length { length (items_of mask.now) ≡ length values.now }
         ensures values { result.values ≡ values.entry.now }
@@ -46,7 +46,8 @@ impl<'a, T: NativeType> MaskedBlocks<'a, T> {
     }
 
     /// Returns the next block, and the word of the mask: the value at index `i` of the block is selected if bit `i` is
-    /// set. The bits of the word after the block are zeros. Returns `None` where no value is left.
+    /// set. If the block has n values, the bits of the word from bit n on are zeros. Returns `None` where no value is
+    /// left.
     pub fn next_block(&mut self) -> Option<(&'a [T], u64)>
         ensures block { IfSome result (λ b. IsNextBlock self.old b.0.now b.1 self.new) }
         ensures end { IsNone result → (self.old.values ≡ []) × (selected_left self.old ≡ [])

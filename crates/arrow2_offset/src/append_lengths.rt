@@ -23,7 +23,8 @@ pub(crate) const LEAST_CAPACITY: usize = 120;
 const SECOND_CAPACITY: usize = 512;
 
 /// Appends the lengths that an iterator yields. On an error, removes the appended lengths again. Requires that the
-/// items of the vector are offsets, and that the iterator ends. Does not read the iterator's size hint.
+/// items of the vector are offsets, that the iterator ends, and that each call of its `next` meets the precondition of
+/// `next`. Does not read the iterator's size hint.
 ///
 /// # Errors
 ///
@@ -54,8 +55,8 @@ pub(crate) fn append_lengths<O: Offset, I: Iterator<Item = usize> + Drop>(
 /// offsets, and the items after these are unspecified.
 ///
 /// The vector is passed by value, so that its length stays in a register from item to item. The sum of lengths is
-/// exact, in a type wider than `O`, and never falls. If the last sum is at most `O::MAX`, so are all sums before it: so
-/// the last sum is compared with `O::MAX` only where capacity is reserved, and at the end.
+/// exact, in a type wider than `O`, and never falls. If a sum is at most `O::MAX`, so are all sums before it. So the
+/// sum is compared with `O::MAX` only before capacity is reserved, and after the loop.
 #[inline(never)]
 fn append_sums<O: Offset, I: Iterator<Item = usize> + Drop>(
     mut offsets: Vec<O>,
@@ -102,7 +103,8 @@ fn append_sums<O: Offset, I: Iterator<Item = usize> + Drop>(
     (offsets, Ok(()))
 }
 
-/// Returns the vector in any case. It has spare capacity unless the allocation failed.
+/// Reserves capacity for more lengths. Returns the vector, also where the allocation fails. After `Ok` it has spare
+/// capacity.
 fn with_spare_capacity<O>(mut offsets: Vec<O>) -> (Vec<O>, Result<(), AllocError>)
     ensures items { result.0.items ≡ offsets.items }
     ensures capacity { vec_capacity offsets ≤ vec_capacity result.0 }

@@ -1,4 +1,4 @@
-//! The test that a list is offsets.
+//! The test that numbers are offsets.
 ghost use Rattle.std.specs.Prelude.{◌≡◌, ℕ, ◌+◌, ◌<◌, ◌≤ℤ◌, ◌↔◌, pos, length, map, slice_index_or, OnOk, IsOk, IfErr, IfSome, IfNone, IsNone, IsTrue};
 ghost use Rattle.arrow2_offset.specs.Offsets.{AreOffsets, AreOffsetsUpTo};
 ghost use Rattle.arrow2_offset.specs.Failures.{IsOutOfSpecOrOutOfMemory, first_broken_rule, rule_words, not_offsets_message};
@@ -7,7 +7,8 @@ use arrow2_index::Offset;
 use arrow2_types::{Error, Result};
 use std::alloc::{AllocError, Global};
 
-/// The first rule of offsets that a list breaks, in this order. Each is named by the fault.
+/// The first rule of offsets that a list breaks. The rules are tested in the order of the variants. Each variant is
+/// named after the fault of a list that breaks its rule.
 #[derive(Clone, Copy, Debug, PartialEq, Eq)]
 pub enum BrokenRule {
     /// There is no offset at all.

@@ -74,8 +74,8 @@ impl<O: Offset> OffsetsBuffer<O> {
     /// `Left` of the offsets as they were. Does not allocate.
     ///
     /// It is proved that `Left` has the offsets as they were, and that `Right` has the same list and comes only if
-    /// nothing is sliced off. No clause is on sharing: it is not proved that `Right` comes only if nobody shares the
-    /// storage, nor that it comes whenever nobody shares it and nothing is sliced off.
+    /// nothing is sliced off. Two facts are not proved: `Right` comes only if nobody shares the storage; `Right` comes
+    /// whenever nobody shares the storage and nothing is sliced off.
     ///
     /// Differs from arrow2, which returns the whole storage, also where the offsets are sliced.
     pub fn into_mut(self) -> Either<Self, Offsets<O>>
@@ -286,9 +286,10 @@ impl<O: Offset> TryFrom<Buffer<O>> for OffsetsBuffer<O> {
 ///
 /// # Errors
 ///
-/// Where the items are not offsets: `OutOfSpec` with the text of the rule that they break, or `OutOfMemory`, in the
-/// code only if that text cannot be allocated. Where they are offsets, `OutOfMemory` is the only error. After an error
-/// the vector is dropped.
+/// Where the items are not offsets, `OutOfSpec` or `OutOfMemory`. The text of `OutOfSpec` names the first rule of
+/// [`BrokenRule`](crate::BrokenRule) that they break. The code then returns `OutOfMemory` only if this text cannot be
+/// allocated; no clause states that. Where the items are offsets, `OutOfMemory` is the only error. After an error the
+/// vector is dropped.
 impl<O: Offset> TryFrom<Vec<O>> for OffsetsBuffer<O> {
     type Error = Error;
 
@@ -338,8 +339,8 @@ impl<O: Offset> Index<usize> for OffsetsBuffer<O> {
     }
 }
 
-/// Shares the storage. Does not allocate: in the code it fails only if the reference count would overflow. No clause
-/// states that.
+/// Shares the storage. Does not allocate. It returns `AllocError` only if the reference count would overflow, which no
+/// clause states.
 impl<O: Offset> Clone for OffsetsBuffer<O> {
     ghost is_clone = { λ b copy. copy ≡ b };
 

@@ -2,8 +2,8 @@
 ghost use Rattle.std.specs.Prelude.{◌≡◌, ℕ, ℤ, ◌+◌, ◌≤◌, ◌++◌, ◌↔◌, List, length, map, pos, slice_index_or};
 ghost use Rattle.arrow2_offset.specs.Offsets.{running_sums, offsets_list, offset_at, last_offset, AreOffsets, start_of, lengths_of, GrowingOffsets, SameOffsets, offsets_of};
 
-/// A list of signed numbers is offsets exactly if it is the list that some start and some lengths give. Then the start
-/// is its `start_of`, and the lengths are its `lengths_of`.
+/// A list of signed numbers is a list of offsets exactly if it is the `offsets_list` of some start and some lengths.
+/// Then the start is its `start_of`, and the lengths are its `lengths_of`.
 #[tactic(auto, using(crate::proofs::OffsetLaws::listed))]
 pub fn offsets_are_a_start_and_lengths()
     ensures list { (xs : List ℤ) → AreOffsets xs →

@@ -113,8 +113,8 @@ impl<O: Offset> Offsets<O> {
         Ok(Offsets { offsets })
     }
 
-    /// Returns the offsets from 0 on with the lengths that an iterator yields. Requires that the iterator ends, and
-    /// that each call of its `next` meets the precondition of `next`. Its size hint is not read.
+    /// Returns offsets that start at 0, with the lengths that an iterator yields. Requires that the iterator ends, and
+    /// that each call of its `next` meets the precondition of `next`. Does not read its size hint.
     ///
     /// # Errors
     ///
@@ -122,7 +122,7 @@ impl<O: Offset> Offsets<O> {
     /// `O::MAX`.
     pub fn try_from_iter<I: IntoIterator<Item = usize>>(alloc: Global, iter: I) -> Result<Self>
         requires { IsFiniteIterable I.into_iter_gives I.IntoIter.can_next I.IntoIter.remaining iter }
-        // The lengths are a whole sequence, from first to last, that the contract of the iterator allows it to yield.
+        // The lengths are those of a run: all items that the iterator yields up to `None`.
         ensures ok { IfOk result (λ o. (it : I.IntoIter) × I.into_iter_gives iter it
             × WholeRun I.IntoIter.next_gives it (λ p. (o.start ≡ 0) × (o.lengths ≡ p.items))) }
         ensures fits { IfOk result (λ o. last_of_growing o ≤ O.MAX) }
@@ -136,7 +136,7 @@ impl<O: Offset> Offsets<O> {
         Offsets::try_from_lengths(alloc, iter.into_iter())
     }
 
-    /// Returns the same as [`Offsets::try_from_iter`], for a value that already is an iterator.
+    /// Returns the same as [`Offsets::try_from_iter`], for a value that already is an iterator, and requires the same.
     ///
     /// # Errors
     ///
@@ -148,7 +148,7 @@ impl<O: Offset> Offsets<O> {
     ) -> Result<Self>
         requires can { I.can_next lengths }
         requires ends { IsFinite (I.remaining lengths) }
-        // The lengths are a whole sequence, from first to last, that the contract of the iterator allows it to yield.
+        // The lengths are those of a run: all items that the iterator yields up to `None`.
         ensures ok { IfOk result (λ o.
             WholeRun I.next_gives lengths (λ p. (o.start ≡ 0) × (o.lengths ≡ p.items))) }
         ensures fits { IfOk result (λ o. last_of_growing o ≤ O.MAX) }
@@ -454,7 +454,7 @@ impl<O: Offset> Offsets<O> {
     }
 
     /// Appends the lengths that an iterator yields. On an error, removes the appended lengths again. Requires that the
-    /// iterator ends.
+    /// iterator ends, and that each call of its `next` meets the precondition of `next`.
     fn extend_lengths<I: Iterator<Item = usize> + Drop>(
         &mut self,
         lengths: I,
@@ -510,7 +510,7 @@ impl<O: Offset> TryFrom<Vec<O>> for Offsets<O> {
 ///
 /// # Errors
 ///
-/// `AllocError`, in the code only if an allocation fails. No clause states that.
+/// `AllocError`. The code returns it only if an allocation fails; no clause states that.
 impl<O: Offset> Clone for Offsets<O> {
     ghost is_clone = { SameOffsets };
 
@@ -550,6 +550,7 @@ impl<O: Offset> PartialEq for Offsets<O> {
     }
 }
 
+/// Equality is reflexive too.
 impl<O: Offset> Eq for Offsets<O> {
     ghost laws = { on_equiv offsets_of (lists_equiv nat_eq_equiv) };
 }

@@ -1,4 +1,5 @@
-//! Packs booleans into bytes, 64 at a time, and appends them at any bit index. Works on bytes and words alone.
+//! Packs booleans into bytes, 64 at a time, and appends them where the bits may end inside a byte. Works on bytes and
+//! words alone.
 #![tactic(auto)]
 
 pub mod from_fn;

@@ -21,7 +21,7 @@ use arrow2_types::GrowthError;
 use std::alloc::{AllocError, Global};
 use std::marker::Model;
 
-/// At index i, the byte with the bits below bit i set. Reading it replaces a shift by a variable.
+/// At index i, the byte with the bits below bit i set. A read of this table takes the place of a shift by a variable.
 const BELOW: [u8; 8] = [0, 1, 3, 7, 15, 31, 63, 127];
 
 /// At index i, the byte with bit i and the bits above it set.
@@ -103,7 +103,7 @@ impl PackedBits {
         ensures capacity { result ≡ self.now.capacity }
         ensures within_capacity { length self.now.items ≤ result }
     {
-        // For the proof alone: reading the length brings the fact that a `usize` counts the items.
+        // For the proof alone: reading the length brings the fact that the number of items fits a `usize`.
         let _ = self.len();
         self.bytes.capacity().saturating_mul(8)
     }
@@ -141,7 +141,7 @@ impl PackedBits {
     /// # Errors
     ///
     /// `Overflow` exactly where there would be more than `usize::MAX` items, else `OutOfMemory` where an allocation
-    /// fails.
+    /// fails. After either error, the items are as before.
     pub fn reserve(&mut self, additional: usize) -> Result<(), GrowthError>
         // The items stay; after `Ok`, `additional` more fit.
         ensures items { self.new.items ≡ self.old.items }
@@ -207,7 +207,8 @@ impl PackedBits {
         if position == 0 {
             self.bytes.push(u8::from(item))?;
         } else {
-            // The number of bytes is read rather than computed from the length, which was written at the last push.
+            // Reads the number of bytes. To compute it from the length would wait for the last push's write to the
+            // length.
             let last = self.bytes.len() - 1;
             self.bytes[last] |= u8::from(item) << position;
         }

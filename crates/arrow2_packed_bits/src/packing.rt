@@ -12,8 +12,9 @@ use arrow2_types::GrowthError;
 use std::alloc::{AllocError, Global};
 use std::simd::prelude::*;
 
-/// Packs the items of an iterator that ends. Returns the bytes and the number of items. The bits after the items are
-/// unspecified, and so is the number of spare bytes. Does not read the size hint.
+/// Packs the items of an iterator. Returns the bytes and the number of items. The bits after the items are unspecified,
+/// and so is the number of spare bytes. Requires that the iterator ends, and that its `next` may be called until then.
+/// Does not read the size hint.
 ///
 /// # Errors
 ///
@@ -73,8 +74,8 @@ fn fill<I: Iterator<Item = bool>>(items: &mut I, block: &mut [bool; 64]) -> usiz
     64
 }
 
-/// Returns the bytes of the items. The bits after the items are unspecified, and so is the number of spare bytes: in the
-/// code these bits are 0, in at most eight bytes. Allocates once.
+/// Returns the bytes of the items. No clause states what the bits after the items are, nor how many bytes there are
+/// after them: these bits are false, in at most eight bytes. Allocates once.
 ///
 /// # Errors
 ///

@@ -70,8 +70,8 @@ impl<T: NativeType> Model for PrimitiveArray<T> {
 
     ghost Value = { PrimitiveParts T };
 
-    // How a proof distinguishes two values: by std's codes, and by that of `DataType`, a type that holds itself.
-    // `the_row` has what the kit generates for a type, and `Prim.hlevel` finds the code.
+    // The encoding by which proofs tell two values apart. `Prim.hlevel` derives it from those of std's types and from
+    // that of `DataType`, a recursive type, which the kit generates in `the_row`.
     ghost coded = { Prim.hlevel (codes, logical_type.the_row.coded) };
 
     ghost view = { λ a. record { data_type = a.data_type.value; values = a.values; validity = a.validity } };
@@ -86,8 +86,8 @@ impl<T: NativeType> PrimitiveArray<T> {
     ///
     /// # Errors
     ///
-    /// `InvalidArgumentError`, or `OutOfMemory` if its message cannot be allocated, exactly if one of these holds. The
-    /// message is that of the first that holds:
+    /// It fails if one of these holds: with `InvalidArgumentError`, whose message is that of the first that holds, or
+    /// with `OutOfMemory` if the message cannot be allocated.
     ///
     /// - the validity has another length than the values;
     /// - the physical type of `data_type` is not that of `T`.
@@ -100,7 +100,7 @@ impl<T: NativeType> PrimitiveArray<T> {
     ) -> Result<PrimitiveArray<T>>
         ensures ok { IfOk result (λ a. (a.data_type ≡ data_type) × (a.values ≡ values)
             × (a.validity ≡ record { len = length (buffer_items values); bitmap = validity })) }
-        // `ForSome o (λ v. P)`: if `o` is `Some` of a value v, P of v.
+        // `ForSome o (λ v. P)`: if `o` is `Some(v)`, then P holds.
         ensures accepted { OnOk result ((physical data_type ≡ Primitive T.PRIMITIVE)
             × ForSome validity (λ v. length (items_of v) ≡ length (buffer_items values))) }
         ensures unequal { let len = length (buffer_items values) in
@@ -356,7 +356,7 @@ impl<T: NativeType> PrimitiveArray<T> {
         PrimitiveArray::new(data_type, values, validity)
     }
 
-    /// Returns `Right` of an array that grows and takes over the storage, if both of these hold:
+    /// Returns `Right` of a `MutablePrimitiveArray` over the same storage, if both of these hold:
     ///
     /// - the values have no other owner, and are not sliced;
     /// - the bitmap has no other owner, and begins at bit 0; or there is no bitmap.
@@ -364,11 +364,12 @@ impl<T: NativeType> PrimitiveArray<T> {
     /// Else returns `Left` of the array as it was. Where there is no bitmap, `Right` has a new one whose items are all
     /// true.
     ///
-    /// Proved: `Left` has the array as it was, `Right` has its items and its logical type, and `Right` comes only if
-    /// the values are not sliced, and the bitmap, if there is one, begins at bit 0. Not proved: that `Right` comes only
-    /// if nobody shares the storage, that it has the same storage, or that it comes whenever both hold.
+    /// It is proved that `Left` has the array as it was, and that `Right` has its items and its logical type. It is
+    /// proved that `Right` comes only if the values are not sliced, and the bitmap, if there is one, begins at bit 0.
+    /// Three facts are not proved: `Right` comes only if nobody shares the storage; `Right` has the storage of `self`;
+    /// `Right` comes whenever both conditions above hold.
     ///
-    /// Differs from arrow2, whose array that grows needs no bitmap where no item is null.
+    /// Differs from arrow2, where a `MutablePrimitiveArray` without nulls needs no bitmap.
     ///
     /// # Errors
     ///
@@ -380,8 +381,8 @@ impl<T: NativeType> PrimitiveArray<T> {
     pub fn into_mut(self) -> Result<Either<PrimitiveArray<T>, MutablePrimitiveArray<T>>>
         ensures ok { IfOk result (λ r. MatchEither r (λ a. a ≡ self)
             (λ m. (m.items ≡ primitive_items self) × (m.data_type ≡ self.data_type))) }
-        // `Right` comes only where the values are not sliced, and a bitmap begins at bit 0. Where the values
-        // are sliced, nothing is allocated.
+        // `Right` comes only where the values are not sliced, and the bitmap, if there is one, begins at bit 0. Where
+        // the values are sliced, the call succeeds.
         ensures whole { IfOk result (λ r. MatchEither r (λ _. ⊤) (λ _. self.values ≡ whole_buffer self.values.storage)) }
         ensures begins { IfSome self.validity.bitmap (λ b.
             IfOk result (λ r. MatchEither r (λ _. ⊤) (λ _. b.offset ≡ 0))) }
@@ -423,8 +424,8 @@ impl<T: NativeType> PrimitiveArray<T> {
     }
 }
 
-/// Shares the logical type, the values and the validity. Does not allocate: in the code it fails only if the reference
-/// count of an `Rc` would overflow. No clause states that.
+/// Shares the logical type, the values and the validity. Does not allocate. It fails only if the reference count of an
+/// `Rc` would overflow, which no clause states.
 impl<T: NativeType> Clone for PrimitiveArray<T> {
     ghost is_clone = { λ a copy. copy ≡ a };
 

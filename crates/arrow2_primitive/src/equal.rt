@@ -23,8 +23,8 @@ impl<T: NativeType> PartialEq for PrimitiveArray<T> {
     ghost laws = { and_per (on_per (λ a. a.data_type) types_per)
         (on_per primitive_items (lists_per (options_per T.laws))) };
 
-    /// If `T::eq` returns true exactly for equal values, `==` is true if and only if `==` of the logical types holds
-    /// and the lists of items are identical.
+    /// If `T::eq` returns true exactly for identical values, `==` returns true exactly if `==` of the logical types
+    /// does and the lists of items are identical.
     fn eq(&self, other: &PrimitiveArray<T>) -> bool
         ensures items { result ≡ (⟦<DataType as PartialEq>⟧.eq self.now.data_type other.now.data_type
             && pointwise (option_eq T.eq) (primitive_items self.now) (primitive_items other.now)) }

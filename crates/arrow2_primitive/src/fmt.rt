@@ -11,10 +11,10 @@ use arrow2_validity::fmt::write_separator;
 use std::fmt;
 
 /// Writes the logical type, then the items in brackets, with `None` for a null: `Int32[1, None, -3]`. No clause states
-/// what formatter flags do.
+/// what formatter flags do, nor what is written for an extension or a type with a time zone.
 ///
-/// Differs from arrow2, which prints dates, times, durations and decimals by their logical type: here the stored
-/// numbers are printed.
+/// Differs from arrow2, which prints dates, times, durations and decimals by their logical type: here each value is
+/// printed by its own `Debug`.
 impl<T: NativeType> fmt::Debug for PrimitiveArray<T> {
     ghost debug_output = { λ a. type_output a.data_type
         ++? debug_list (item_output T.debug_output) (primitive_items a) };

@@ -64,8 +64,8 @@ impl<T: NativeType> Model for MutablePrimitiveArray<T> {
 
     ghost Value = { GrowingPrimitive T };
 
-    // How a proof distinguishes two values: by std's codes, and by that of `DataType`, a type that holds itself.
-    // `the_row` has what the kit generates for a type, and `Prim.hlevel` finds the code.
+    // The encoding by which proofs tell two values apart. `Prim.hlevel` derives it from those of std's types and from
+    // that of `DataType`, a recursive type, which the kit generates in `the_row`.
     ghost coded = { Prim.hlevel (codes, logical_type.the_row.coded) };
 
     ghost view = { λ a. record {
@@ -128,8 +128,8 @@ impl<T: NativeType> MutablePrimitiveArray<T> {
         }
     }
 
-    /// Returns an array without items that shares the logical type of `array`. Does not allocate: in the code it fails
-    /// only if the reference count of the `Rc` would overflow. No clause states that.
+    /// Returns an array without items that shares the logical type of `array`. Does not allocate. It fails only if the
+    /// reference count of the `Rc` would overflow, which no clause states.
     ///
     /// # Errors
     ///
@@ -144,7 +144,8 @@ impl<T: NativeType> MutablePrimitiveArray<T> {
     }
 
     /// Returns an array of the items of an iterator, in their order. The logical type is the one that belongs to `T`.
-    /// Requires that the iterator ends. Does not read its size hint.
+    /// Requires that the iterator ends, and that its `next` may be called until then. Does not
+    /// read its size hint.
     ///
     /// Stands for arrow2's `FromIterator`.
     ///
@@ -244,7 +245,7 @@ impl<T: NativeType> MutablePrimitiveArray<T> {
     /// `Overflow` exactly where the sum of the length and `additional` passes `usize::MAX`, else `OutOfMemory` alone.
     /// After either error, the array holds the items that it held.
     pub fn reserve(&mut self, additional: usize) -> Result<()>
-        // The array stays; after `Ok`, `additional` more items fit.
+        // The items and the logical type are as before. After `Ok`, `additional` more items fit the capacity.
         ensures items { self.new.items ≡ self.old.items }
         ensures data_type { self.new.data_type ≡ self.old.data_type }
         ensures ok { OnOk result (length self.old.items + additional ≤ self.new.capacity) }
@@ -416,8 +417,8 @@ impl<T: NativeType> MutablePrimitiveArray<T> {
         Ok(PrimitiveArray::new(data_type, values, validity))
     }
 
-    /// Appends an item where the vector of the values is full. It returns the one-byte `GrowthError`. If it returned an
-    /// [`Error`], a loop with `push` inlined would zero the memory of an `Error` at each item.
+    /// Appends an item where the length has reached the capacity. It returns the one-byte `GrowthError`. If it returned
+    /// an [`Error`], a loop with `push` inlined would zero the memory of an `Error` at each item.
     fn push_growing(&mut self, item: Option<T>) -> std::result::Result<(), GrowthError>
         requires full { self.old.capacity ≤ length self.old.items }
         ensures ok { OnOk result (self.new.items ≡ self.old.items ++ item ∷ []) }

@@ -18,7 +18,7 @@ pub enum Command<'a> {
     Bitmap(BitmapCommand<'a>),
     /// A command on offsets.
     Offset(OffsetCommand<'a>),
-    /// A command on values of any type.
+    /// A command on values of several types.
     Value(ValueCommand),
     /// A command on the bits that bitmaps store.
     Storage(StorageCommand<'a>),

@@ -8,15 +8,15 @@ ghost use Rattle.arrow2_script.specs.Commands.{command_in, IsSpelling};
 ghost use Rattle.arrow2_script.specs.declared.command.Command.{Command};
 ghost use Rattle.arrow2_script.specs.declared.words.Width.{Width};
 
-/// The lines of a script hold no line end. Each followed by a line end, they are the script, with a line end added
-/// where its last line has none. No other list of lines has these two properties.
+/// The lines of a script hold no line end. Joined, with a line end after each, they equal the script; where its last
+/// line has no line end, one is added. No other list of lines has these two properties.
 pub fn lines_of_a_script()
     ensures are { (script : List ℕ) → AreLines script (lines_of script) }
     ensures only { (script : List ℕ) (lines : List (List ℕ)) → AreLines script lines →
         lines ≡ lines_of script }
 {}
 
-/// If a line has words, they are not empty and hold no space, and joined by one space each they are the line. No other
+/// If a line has words, none is empty and none holds a space. Joined by single spaces, they equal the line. No other
 /// list of words has these properties.
 pub fn words_of_a_line()
     ensures { (line : List ℕ) (words : List (List ℕ)) → 0 < length words →

@@ -1,4 +1,4 @@
-//! The commands on values of any type, and their parser from the words of a line.
+//! The commands on values of several types, and their parser from the words of a line.
 ghost use Rattle.std.specs.Prelude.{◌≡◌};
 ghost use Rattle.arrow2_script.specs.ValueCommands.{value_command_of};
 
@@ -6,7 +6,7 @@ use crate::arguments::Values;
 use crate::lines::Parts;
 use crate::words::SlotIndex;
 
-/// A command on values of any type.
+/// A command on values of several types.
 #[derive(Drop)]
 pub enum ValueCommand {
     /// `copy s d`: slot d holds the same frozen bitmap, frozen offsets or boolean array as slot s.

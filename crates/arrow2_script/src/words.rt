@@ -136,7 +136,7 @@ impl<'a> Word<'a> for Option<SlotIndex> {
     }
 }
 
-/// The number of bits of a word, as a script spells it.
+/// A width: how many bits the words have that a command reads a bitmap by.
 #[derive(Clone, Copy, Debug, PartialEq, Eq)]
 pub enum Width {
     /// 8 bits.

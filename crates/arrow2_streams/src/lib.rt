@@ -1,4 +1,4 @@
-//! Reading all of a reader and writing all of a text, with failed calls counted for contracts alone.
+//! Reads a reader to its end, and writes a whole text. Failed calls are counted by numbers that only contracts see.
 #![tactic(auto)]
 
 pub mod fault;

@@ -35,7 +35,7 @@ pub fn read_all<R: Read>(alloc: Global, reader: &mut Watched<R>) -> Result<Vec<u
     read_through(alloc, reader, buffer.as_mut_slice())
 }
 
-/// Returns all the bytes that the reader has left, read through `buffer`.
+/// Returns all the bytes that the reader has left, read through `buffer`. Requires that the buffer is not empty.
 fn read_through<R: Read>(
     alloc: Global,
     reader: &mut Watched<R>,

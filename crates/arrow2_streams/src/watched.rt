@@ -1,4 +1,4 @@
-//! A reader or a writer whose calls are counted, for contracts alone.
+//! A reader or a writer with two counts that only contracts see.
 ghost use Rattle.std.specs.Prelude.{◌≡◌, ◌+◌, ◌<◌, is_err, if◌then◌else◌, length};
 ghost use Rattle.std.specs.Io.{ReadsAtMost, WritesAtMost};
 ghost use Rattle.std.specs.Io.KnownBytes.{ReadConsumes, WriteAppends, Keeps};
@@ -9,11 +9,10 @@ use std::io;
 use std::io::{Read, Write};
 use std::marker::Model;
 
-/// A reader or a writer, with the number of its calls that failed, and the number of its writes since its last flush
-/// that succeeded.
+/// A reader or a writer with two counts: of its failed calls, and of its writes since the last successful flush.
 ///
-/// A call fails if it returns an error. A write also fails if it takes 0 bytes of a text that is not empty. In the
-/// code the counts have size 0 at run time: only contracts see them.
+/// A call fails if it returns an error. A write also fails if it takes 0 bytes of a text that is not empty. Only
+/// contracts see the counts: at run time they have size 0.
 #[derive(Drop)]
 pub struct Watched<T> {
     inner: T,

@@ -13,14 +13,15 @@ use arrow2_kernels::{OneList, Pair, ZipRows};
 use arrow2_types::{Error, Result};
 
 /// Returns the bitmap of the results of `op` for the three words of 64 items at each index. The last words are padded
-/// with false. Requires that all have equal lengths, and that the `requires` of `op` holds for every three words.
+/// with false. Requires that the bitmaps have equal lengths, and that the `requires` of `op` holds for every three
+/// words.
 ///
 /// For any `op` the clauses state that the items are the bits of result words, and that each result word is one that
-/// the contract of `op` allows for the input words at its index. If the contract of `op` determines each result (as a
-/// function of its words, or through a truth table for each bit), the clauses determine each item.
+/// the contract of `op` allows for the input words at its index. If the contract of `op` determines each result word
+/// (as a function of the input words, or by one truth table for all bits), the clauses determine each item.
 ///
-/// Differs from arrow2: the padding bits of the words count as false. In the code `op` is not called for words that
-/// hold no item, which no clause states. arrow2's call returns no `Result`.
+/// Differs from arrow2: the padding bits of the words count as false. `op` is not called for words that hold no item;
+/// no clause states this. arrow2's call returns no `Result`.
 ///
 /// # Errors
 ///
@@ -46,7 +47,7 @@ pub fn ternary<F: Fn(u64, u64, u64) -> u64>(
     ensures results { IfOk result (λ b. AreJoinedResults 64 (length (items_of a1.now))
         (λ j. F.post op (bitmap_word 64 a1.now j) (bitmap_word 64 a2.now j)
         (bitmap_word 64 a3.now j)) (items_of b)) }
-    // It is stored in canonical bytes, and the only error is `OutOfMemory`.
+    // The bitmap has as many items as `a1`, in canonical bytes. The only error is `OutOfMemory`.
     ensures len { IfOk result (λ b. length (items_of b) ≡ length (items_of a1.now)) }
     ensures storage { IfOk result (λ b. IsPacked b) }
     ensures only { IfErr result (λ e. e ≡ Error.OutOfMemory) }
@@ -72,14 +73,15 @@ pub fn ternary<F: Fn(u64, u64, u64) -> u64>(
 }
 
 /// Returns the bitmap of the results of `op` for the four words of 64 items at each index. The last words are padded
-/// with false. Requires that all have equal lengths, and that the `requires` of `op` holds for every four words.
+/// with false. Requires that the bitmaps have equal lengths, and that the `requires` of `op` holds for every four
+/// words.
 ///
 /// For any `op` the clauses state that the items are the bits of result words, and that each result word is one that
-/// the contract of `op` allows for the input words at its index. If the contract of `op` determines each result (as a
-/// function of its words, or through a truth table for each bit), the clauses determine each item.
+/// the contract of `op` allows for the input words at its index. If the contract of `op` determines each result word
+/// (as a function of the input words, or by one truth table for all bits), the clauses determine each item.
 ///
-/// Differs from arrow2: the padding bits of the words count as false. In the code `op` is not called for words that
-/// hold no item, which no clause states. arrow2's call returns no `Result`.
+/// Differs from arrow2: the padding bits of the words count as false. `op` is not called for words that hold no item;
+/// no clause states this. arrow2's call returns no `Result`.
 ///
 /// # Errors
 ///
@@ -109,7 +111,7 @@ pub fn quaternary<F: Fn(u64, u64, u64, u64) -> u64>(
     ensures results { IfOk result (λ b. AreJoinedResults 64 (length (items_of a1.now))
         (λ j. F.post op (bitmap_word 64 a1.now j) (bitmap_word 64 a2.now j)
         (bitmap_word 64 a3.now j) (bitmap_word 64 a4.now j)) (items_of b)) }
-    // It is stored in canonical bytes, and the only error is `OutOfMemory`.
+    // The bitmap has as many items as `a1`, in canonical bytes. The only error is `OutOfMemory`.
     ensures len { IfOk result (λ b. length (items_of b) ≡ length (items_of a1.now)) }
     ensures storage { IfOk result (λ b. IsPacked b) }
     ensures only { IfErr result (λ e. e ≡ Error.OutOfMemory) }
@@ -181,7 +183,7 @@ pub fn quaternary_table(
     // The outputs of the table, item by item.
     ensures items { IfOk result (λ b. items_of b
         ≡ each t (items_of a1.now ∷ items_of a2.now ∷ items_of a3.now ∷ items_of a4.now ∷ [])) }
-    // It is stored in canonical bytes, and the only error is `OutOfMemory`.
+    // The bitmap has as many items as `a1`, in canonical bytes. The only error is `OutOfMemory`.
     ensures len { IfOk result (λ b. length (items_of b) ≡ length (items_of a1.now)) }
     ensures storage { IfOk result (λ b. IsPacked b) }
     ensures only { IfErr result (λ e. e ≡ Error.OutOfMemory) }

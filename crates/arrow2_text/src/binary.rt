@@ -51,7 +51,8 @@ impl<O: Offset> Model for BinaryArray<O> {
 
     ghost Value = { BinaryParts };
 
-    // How a proof distinguishes two values: by std's codes, and by that of `DataType`, a type that holds itself.
+    // The encoding by which proofs tell two values apart: derived from those of std's types and from that of
+    // `DataType`.
     ghost coded = { Prim.hlevel (codes, logical_type.the_row.coded) };
 
     ghost view = { λ a. a.slots };
@@ -65,15 +66,15 @@ impl<O: Offset> BinaryArray<O> {
     ///
     /// # Errors
     ///
-    /// `InvalidArgumentError`, or `OutOfMemory` (in the code only if the message cannot be allocated), exactly if one
-    /// of these holds. The message is that of the first that holds:
+    /// It fails if one of these holds: with `InvalidArgumentError`, whose message is that of the first that holds, or
+    /// with `OutOfMemory` (in the code only if the message cannot be allocated).
     ///
     /// - the last offset is past the values;
     /// - the validity has another length than the number of slots;
     /// - the physical type of `data_type` is not that of byte strings: `Binary`, or `LargeBinary` where `O` has 64
     ///   bits.
     ///
-    /// Otherwise the only error is `OutOfMemory`. After an error the parts are dropped.
+    /// If none holds, the only error is `OutOfMemory`. After an error the parts are dropped.
     pub fn try_new(
         data_type: DataType,
         offsets: OffsetsBuffer<O>,
@@ -116,7 +117,8 @@ impl<O: Offset> BinaryArray<O> {
         }
     }
 
-    /// Returns the array of these slots. Requires that the physical type is one of byte strings.
+    /// Returns the array of these slots. Requires that the physical type is that of byte strings with offsets of type
+    /// `O`.
     pub(crate) fn of_slots(slots: Slots<O>) -> BinaryArray<O>
         requires { physical slots.data_type ≡ binary_layout O.IS_LARGE }
         ensures { result ≡ slots }
@@ -163,7 +165,7 @@ impl<O: Offset> BinaryArray<O> {
 
     /// Returns an array of a copy of these items. The array has a validity bitmap exactly if an item is null.
     ///
-    /// Stands for arrow2's `From` of a slice.
+    /// Replaces arrow2's `from`, which takes a slice.
     ///
     /// # Errors
     ///
@@ -331,7 +333,7 @@ impl<O: Offset> BinaryArray<O> {
         BinaryArray::new(data_type, offsets, values, validity)
     }
 
-    /// Returns `Right` of an array that grows and takes over the storage, if all of these hold:
+    /// Returns `Right` of a `MutableBinaryArray` over the same storage, if all of these hold:
     ///
     /// - the offsets have no other owner, are not sliced, begin at 0, and end after the last byte;
     /// - the bytes have no other owner, and are not sliced;
@@ -340,12 +342,13 @@ impl<O: Offset> BinaryArray<O> {
     /// Else returns `Left` of the array as it was. Where the offsets and the bytes can be taken over and there is no
     /// bitmap, the call allocates memory for one.
     ///
-    /// Proved: `Left` has the array as it was. `Right` has its items, its number of bytes and its logical type, and
-    /// comes only where the offsets begin at 0 and end after the last byte, neither they nor the bytes are sliced, and
-    /// the bitmap, if there is one, begins at bit 0. Not proved: that `Right` comes only where nobody shares the
-    /// storage, that it has the same storage, or that it comes whenever all the conditions of the list hold.
+    /// It is proved that `Left` has the array as it was, and that `Right` has the array's items, number of bytes and
+    /// logical type. It is proved that `Right` comes only where the offsets begin at 0 and end after the last byte, the
+    /// offsets and the bytes are not sliced, and the bitmap, if there is one, begins at bit 0. Three facts are not
+    /// proved: `Right` comes only where nobody shares the storage; `Right` has the same storage; `Right` comes whenever
+    /// all conditions of the list hold.
     ///
-    /// Differs from arrow2, whose array that grows needs no memory for a bitmap where no item is null.
+    /// Differs from arrow2, where a `MutableBinaryArray` without nulls needs no bitmap.
     ///
     /// # Errors
     ///
@@ -360,7 +363,8 @@ impl<O: Offset> BinaryArray<O> {
         ensures ok { IfOk result (λ r. MatchEither r (λ a. a ≡ self)
             (λ m. (m.items ≡ binary_items self) × (m.bytes ≡ length (buffer_items self.values))
             × (m.data_type ≡ self.data_type))) }
-        // `Right` comes only where the offsets begin at 0 and end after the last byte, and nothing is sliced.
+        // `Right` comes only where the offsets begin at 0 and end after the last byte, the offsets and the bytes are
+        // not sliced, and the bitmap, if there is one, begins at bit 0.
         ensures whole { IfOk result (λ r. MatchEither r (λ _. ⊤) (λ _. IsWhole self × IsUnsliced self)) }
         ensures succeeds { ¬ IsWhole self → IsOk result }
         ensures only { IfErr result (λ e. e ≡ Error.OutOfMemory) }
@@ -384,7 +388,7 @@ impl<O: Offset> BinaryArray<O> {
     }
 }
 
-/// Shares the logical type, the offsets, the bytes and the validity. Does not allocate: in the code it fails only if
+/// Shares the logical type, the offsets, the bytes and the validity. Does not allocate. It returns `AllocError` only if
 /// the reference count of an `Rc` would overflow. No clause states any of this.
 impl<O: Offset> Clone for BinaryArray<O> {
     ghost is_clone = { λ a copy. copy ≡ a };

@@ -19,8 +19,8 @@ use arrow2_utf8::{BrokenTexts, try_check_utf8};
 use arrow2_validity::Validity;
 use std::alloc::Global;
 
-/// Returns `InvalidArgumentError` with this message, or `OutOfMemory`, in the code only if the message cannot be
-/// allocated.
+/// Returns `InvalidArgumentError` with this message, or `OutOfMemory`. The code returns `OutOfMemory` only if the
+/// message cannot be allocated.
 pub(crate) fn invalid_argument(alloc: Global, words: &str) -> Error
     ensures { IsInvalidArgumentOrOutOfMemory result words.now }
 {
@@ -70,7 +70,7 @@ pub(crate) fn check_texts<O: Offset>(
     }
 }
 
-/// Returns an error exactly if the physical type of `data_type` is not that of byte strings.
+/// Returns an error exactly if the physical type of `data_type` is not that of byte strings with offsets of type `O`.
 pub(crate) fn check_binary_layout<O: Offset>(alloc: Global, data_type: &DataType) -> Result<()>
     ensures accepted { IsOk result ↔ (physical data_type.now ≡ binary_layout O.IS_LARGE) }
     ensures rejected { FailsOnlyWith result other_binary_layout_message }
@@ -84,7 +84,7 @@ pub(crate) fn check_binary_layout<O: Offset>(alloc: Global, data_type: &DataType
     Ok(())
 }
 
-/// Returns an error exactly if the physical type of `data_type` is not that of texts.
+/// Returns an error exactly if the physical type of `data_type` is not that of texts with offsets of type `O`.
 pub(crate) fn check_text_layout<O: Offset>(alloc: Global, data_type: &DataType) -> Result<()>
     ensures accepted { IsOk result ↔ (physical data_type.now ≡ text_layout O.IS_LARGE) }
     ensures rejected { FailsOnlyWith result other_text_layout_message }

@@ -157,7 +157,7 @@ impl<O: Offset> Growing<O> {
 
     /// Reserves capacity for `slots` more slots and `bytes` more bytes.
     pub(crate) fn reserve(&mut self, slots: usize, bytes: usize) -> Result<()>
-        // The array stays.
+        // The slots, the number of bytes and the logical type are as before.
         ensures data_type { self.new.data_type ≡ self.old.data_type }
         ensures same { length self.old.valid ≡ length self.old.values }
         ensures values { self.new.values ≡ self.old.values }
@@ -166,7 +166,7 @@ impl<O: Offset> Growing<O> {
         // After `Ok`, `slots` more slots and `bytes` more bytes fit.
         ensures ok { OnOk result (length self.old.valid + slots ≤ self.new.capacity) }
         ensures ok_bytes { OnOk result (self.old.bytes + bytes ≤ self.new.byte_capacity) }
-        // When each error comes, and when none does.
+        // When it overflows, which errors can come, and when none does.
         ensures overflow { IsErrOf result Error.Overflow ↔ (2 ^ 64 ≤ length self.old.valid + slots) }
         ensures only { IfErr result (λ e. (e ≡ Error.Overflow) ⊎ (e ≡ Error.OutOfMemory)) }
         ensures succeeds { length self.old.valid + slots ≤ self.old.capacity →
@@ -200,7 +200,8 @@ impl<O: Offset> Growing<O> {
     pub(crate) fn push(&mut self, value: &[u8], valid: bool) -> Result<()>
         ensures { AppendsSlots O.MAX result self.old self.new (value.now ∷ []) (valid ∷ []) (length value.now) }
     {
-        // For the proof alone: that a `usize` counts the offsets, and that the last is at most `O::MAX`.
+        // For the proof alone: these calls bring the facts that the number of offsets fits a `usize`, and that the last
+        // offset is at most `O::MAX`.
         let _ = self.offsets.len();
         let _ = self.offsets.last();
         self.offsets.try_push_usize(value.len())?;
@@ -228,8 +229,9 @@ impl<O: Offset> Growing<O> {
     }
 
     /// Appends the `len` slots of `slots` from slot `start` on. Requires that `start + len` is at most the number of
-    /// its slots, that `bytes` are the bytes of these slots, that they are within both capacities, and that the last
-    /// offset does not pass `O::MAX`.
+    /// its slots, and that `bytes` are the bytes of these slots. Requires spare capacity for `len` slots and for these
+    /// bytes. Requires that the last offset plus the number of these bytes is at most `O::MAX`, and that a `usize` can
+    /// count the slots afterwards.
     fn extend_within(&mut self, slots: &Slots<O>, bytes: &[u8], start: usize, len: usize)
         requires inside { start + len ≤ length (binary_items slots.now) }
         requires bytes { bytes.now ≡ part (buffer_items slots.now.values)
@@ -320,7 +322,8 @@ impl<O: Offset> Growing<O> {
     }
 }
 
-/// Appends the bytes of a slot, and whether it is valid. After an error, both hold what they held.
+/// Appends the bytes of a slot, and whether it is valid. After an error, both hold what they held. Requires that a
+/// `usize` can count the slots afterwards.
 fn push_slot(
     values: &mut Vec<u8>,
     validity: &mut MutableBitmap,

@@ -28,8 +28,8 @@ use std::rc::Rc;
 /// where the last offset does not pass `O::MAX`.
 ///
 /// Differs from arrow2: there always is a validity bitmap while the array grows, and [`MutableBinaryArray::freeze`]
-/// drops it where no item is null. Before `freeze` the only call that reads an item is [`MutableBinaryArray::pop`], and
-/// none sets one.
+/// drops it where no item is null. Before `freeze` the only call that reads an item is [`MutableBinaryArray::pop`]. No
+/// call overwrites an item.
 #[derive(Drop)]
 pub struct MutableBinaryArray<O: Offset> {
     slots: Growing<O>,
@@ -45,7 +45,8 @@ impl<O: Offset> Model for MutableBinaryArray<O> {
 
     ghost Value = { GrowingBinary };
 
-    // How a proof distinguishes two values: by std's codes, and by that of `DataType`, a type that holds itself.
+    // The encoding by which proofs tell two values apart: derived from those of std's types and from that of
+    // `DataType`.
     ghost coded = { Prim.hlevel (codes, logical_type.the_row.coded) };
 
     ghost view = { λ a. growing_binary a.slots };
@@ -134,7 +135,8 @@ impl<O: Offset> MutableBinaryArray<O> {
     }
 
     /// Returns an array of the items of an iterator, in their order, of the default logical type of byte strings.
-    /// Requires that the iterator ends. Does not read its size hint.
+    /// Requires that the iterator ends, and that its `next` may be called until then. Does not
+    /// read its size hint.
     ///
     /// # Errors
     ///
@@ -177,7 +179,8 @@ impl<O: Offset> MutableBinaryArray<O> {
         Ok(array)
     }
 
-    /// Returns the array of these slots, over their storage.
+    /// Returns the array of these slots, over their storage. Requires that the physical type is that of byte strings
+    /// with offsets of type `O`.
     pub(crate) fn of_slots(slots: Growing<O>) -> MutableBinaryArray<O>
         requires { physical slots.data_type ≡ binary_layout O.IS_LARGE }
         ensures { result ≡ growing_binary slots }
@@ -215,14 +218,14 @@ impl<O: Offset> MutableBinaryArray<O> {
     /// `Overflow` exactly where the sum of the length and `additional` passes `usize::MAX`, else `OutOfMemory` alone.
     /// After either error, the array holds the items that it held.
     pub fn reserve(&mut self, additional: usize, bytes: usize) -> Result<()>
-        // The array stays.
+        // The items, the number of bytes and the logical type are as before.
         ensures items { self.new.items ≡ self.old.items }
         ensures bytes { self.new.bytes ≡ self.old.bytes }
         ensures data_type { self.new.data_type ≡ self.old.data_type }
         // After `Ok`, `additional` more items and `bytes` more bytes fit.
         ensures ok { OnOk result (length self.old.items + additional ≤ self.new.capacity) }
         ensures ok_bytes { OnOk result (self.old.bytes + bytes ≤ self.new.byte_capacity) }
-        // When each error comes, and when none does.
+        // When it overflows, which errors can come, and when none does.
         ensures overflow { IsErrOf result Error.Overflow ↔
             (2 ^ 64 ≤ length self.old.items + additional) }
         ensures only { IfErr result (λ e. (e ≡ Error.Overflow) ⊎ (e ≡ Error.OutOfMemory)) }

@@ -30,8 +30,8 @@ use std::rc::Rc;
 /// where the last offset does not pass `O::MAX`.
 ///
 /// Differs from arrow2: there always is a validity bitmap while the array grows, and [`MutableUtf8Array::freeze`] drops
-/// it where no item is null. Before `freeze` the only call that reads an item is [`MutableUtf8Array::pop`], and none
-/// sets one.
+/// it where no item is null. Before `freeze` the only call that reads an item is [`MutableUtf8Array::pop`]. No call
+/// overwrites an item.
 ///
 /// # Examples
 ///
@@ -60,7 +60,8 @@ impl<O: Offset> Model for MutableUtf8Array<O> {
 
     ghost Value = { GrowingBinary };
 
-    // How a proof distinguishes two values: by std's codes, and by that of `DataType`, a type that holds itself.
+    // The encoding by which proofs tell two values apart: derived from those of std's types and from that of
+    // `DataType`.
     ghost coded = { Prim.hlevel (codes, logical_type.the_row.coded) };
 
     ghost view = { λ a. growing_binary a.slots };
@@ -151,7 +152,8 @@ impl<O: Offset> MutableUtf8Array<O> {
     }
 
     /// Returns an array of the items of an iterator, in their order, of the default logical type of texts. Requires
-    /// that the iterator ends. Does not read its size hint.
+    /// that the iterator ends, and that its `next` may be called until then. Does not read its
+    /// size hint.
     ///
     /// # Errors
     ///
@@ -194,7 +196,8 @@ impl<O: Offset> MutableUtf8Array<O> {
         Ok(array)
     }
 
-    /// Returns the array of these slots, over their storage.
+    /// Returns the array of these slots, over their storage. Requires that the physical type is that of texts with
+    /// offsets of type `O`, and that each slot is UTF-8.
     pub(crate) fn of_slots(slots: Growing<O>) -> MutableUtf8Array<O>
         requires layout { physical slots.data_type ≡ text_layout O.IS_LARGE }
         requires texts { AreUtf8 slots.values }
@@ -233,14 +236,14 @@ impl<O: Offset> MutableUtf8Array<O> {
     /// `Overflow` exactly where the sum of the length and `additional` passes `usize::MAX`, else `OutOfMemory` alone.
     /// After either error, the array holds the items that it held.
     pub fn reserve(&mut self, additional: usize, bytes: usize) -> Result<()>
-        // The array stays.
+        // The items, the number of bytes and the logical type are as before.
         ensures items { self.new.items ≡ self.old.items }
         ensures bytes { self.new.bytes ≡ self.old.bytes }
         ensures data_type { self.new.data_type ≡ self.old.data_type }
         // After `Ok`, `additional` more items and `bytes` more bytes fit.
         ensures ok { OnOk result (length self.old.items + additional ≤ self.new.capacity) }
         ensures ok_bytes { OnOk result (self.old.bytes + bytes ≤ self.new.byte_capacity) }
-        // When each error comes, and when none does.
+        // When it overflows, which errors can come, and when none does.
         ensures overflow { IsErrOf result Error.Overflow ↔
             (2 ^ 64 ≤ length self.old.items + additional) }
         ensures only { IfErr result (λ e. (e ≡ Error.Overflow) ⊎ (e ≡ Error.OutOfMemory)) }

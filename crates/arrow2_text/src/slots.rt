@@ -218,20 +218,20 @@ impl<O: Offset> Slots<O> {
         }
         match (self.validity().bitmap(), other.validity().bitmap()) {
             (Some(valid), Some(others)) => valid == others && self.same_runs(other, valid),
-            // One has no bitmap, so none of its items is null, nor one of the other's.
+            // One has no bitmap, so it has no null. Both have equally many nulls, so the other has none either.
             _ => self.same_values(other, 0, count),
         }
     }
 
-    /// Returns whether the slots whose bits are set have the same bytes in both. Requires that `valid` has a bit for each slot
-    /// of either.
+    /// Returns whether both have the same bytes in each slot whose bit in `valid` is set. Requires that `valid` has a
+    /// bit for each slot of either.
     fn same_runs(&self, other: &Slots<O>, valid: &Bitmap) -> bool
         requires mine { length (items_of valid.now) ≡ length (binary_items self.now) }
         requires others { length (items_of valid.now) ≡ length (binary_items other.now) }
         ensures { Decides result (zipped (binary_values self.now) (items_of valid.now)
             ≡ zipped (binary_values other.now) (items_of valid.now)) }
     {
-        // For the proof alone: reading the lengths brings that each item has a value.
+        // For the proof alone: reading the lengths brings the fact that there are as many values as items.
         let _ = (self.len(), other.len());
         laws::runs_lie_inside();
         for (start, len) in SlicesIterator::new(valid) {
@@ -262,7 +262,7 @@ impl<O: Offset> Slots<O> {
         ensures { Decides result (part (lengths_of (buffer_items self.now.offsets)) start len
             ≡ part (lengths_of (buffer_items other.now.offsets)) start len) }
     {
-        // For the proof alone: reading the lengths brings that each item has the length of a slot.
+        // For the proof alone: reading the lengths brings the fact that there are as many slots as items.
         let _ = (self.len(), other.len());
         for index in start..start + len {
             let (from, to) = self.offsets.start_end(index);
@@ -276,10 +276,12 @@ impl<O: Offset> Slots<O> {
 
     /// Returns `Right` of slots that grow over the same storage, if the storage has no other owner, the offsets and the
     /// bytes are not sliced, the offsets begin at 0 and end after the last byte, and the bitmap begins at bit 0. Else
-    /// returns `Left` of the slots as they were. Where there is no bitmap, `Right` has a new one.
+    /// returns `Left` of the slots as they were. Where there is no bitmap, `Right` has a new one. The only error is
+    /// `OutOfMemory`.
     pub(crate) fn into_mut(self) -> Result<Either<Slots<O>, Growing<O>>>
         ensures ok { IfOk result (λ r. AreThawed r self (binary_values self)) }
-        // `Right` comes only where the offsets begin at 0 and end after the last byte, and nothing is sliced.
+        // `Right` comes only where the offsets begin at 0 and end after the last byte, the offsets and the bytes are
+        // not sliced, and the bitmap, if there is one, begins at bit 0.
         ensures whole { IfOk result (λ r. MatchEither r (λ _. ⊤) (λ _. IsWhole self × IsUnsliced self)) }
         ensures succeeds { ¬ IsWhole self → IsOk result }
         ensures only { IfErr result (λ e. e ≡ Error.OutOfMemory) }
@@ -317,8 +319,8 @@ impl<O: Offset> Slots<O> {
 
 /// Returns `Right` of slots that grow over these parts, if the bytes and the bitmap have no other owner, the bytes are
 /// not sliced, and the bitmap begins at bit 0. Else returns `Left` of the slots of these parts. Where there is no
-/// bitmap, `Right` has a new one. Requires that the offsets begin at 0 and end after the last byte, and that the
-/// validity has an item for each slot.
+/// bitmap, `Right` has a new one. The only error is `OutOfMemory`. Requires that the offsets begin at 0 and end after
+/// the last byte, and that the validity has an item for each slot.
 fn thaw<O: Offset>(
     data_type: Rc<DataType>,
     offsets: Offsets<O>,
@@ -358,7 +360,7 @@ fn thaw<O: Offset>(
     }
 }
 
-/// Shares all parts. Does not allocate: in the code it fails only if the reference count of an `Rc` would overflow.
+/// Shares all parts. Does not allocate. It fails only if the reference count of an `Rc` would overflow.
 impl<O: Offset> Clone for Slots<O> {
     ghost is_clone = { λ a copy. copy ≡ a };
 

@@ -9,8 +9,8 @@ use std::{fmt, io};
 
 /// Why a call failed.
 ///
-/// Differs from arrow2: `External` holds a text instead of a boxed error, `OutOfMemory` replaces an abort, and
-/// `Overflow` means overflow alone.
+/// Differs from arrow2: `External` holds a text instead of a boxed error. `OutOfMemory` replaces an abort. `Overflow`
+/// means overflow alone; in arrow2 it also comes where memory cannot be reserved.
 #[derive(Debug, Drop)]
 #[non_exhaustive]
 pub enum Error {
@@ -61,7 +61,8 @@ impl Error {
         Error::from_external_error::<Utf8Error>(alloc, &error)
     }
 
-    /// Returns the same as [`Error::from_external_error`] for std's error that also holds the bytes. Drops these bytes.
+    /// Returns the same as [`Error::from_external_error`] for the error of std's `String::from_utf8`. Drops the bytes
+    /// that this error holds.
     pub fn from_string_utf8_error(alloc: Global, error: FromUtf8Error) -> Error
         ensures { WrapsText result (λ text.
             IfSome (⟦<FromUtf8Error as fmt::Display>⟧.output error) (λ printed. text ≡ printed)) }
@@ -77,9 +78,9 @@ impl Error {
     }
 }
 
-/// Prints a phrase for the error's variant, followed by the error's text if it has one. [`Error::OutOfSpec`] prints its
-/// text alone. The text that [`Error::Io`] prints is not specified, since the standard library does not specify the
-/// texts of its own errors.
+/// Prints a phrase for the error's variant, followed by the error's text if it has one. [`Error::External`] prints its
+/// message between the two. [`Error::OutOfSpec`] prints its text alone. The text that [`Error::Io`] prints is not
+/// specified, since the standard library does not specify the texts of its own errors.
 impl fmt::Display for Error {
     ghost use Rattle.arrow2_types.specs.ErrorTexts.{error_text};
 
@@ -101,7 +102,7 @@ impl fmt::Display for Error {
 
 impl std::error::Error for Error {}
 
-/// Does not allocate.
+/// Returns `OutOfMemory`. Does not allocate.
 impl From<AllocError> for Error {
     ghost from_gives = { λ _ e. e ≡ OutOfMemory };
 
@@ -110,7 +111,7 @@ impl From<AllocError> for Error {
     }
 }
 
-/// Drops the value that could not be stored. Does not allocate.
+/// Returns `OutOfMemory`, and drops the value that could not be stored. Does not allocate.
 impl<T: Drop> From<AllocFailed<T>> for Error {
     ghost from_gives = { λ _ e. e ≡ OutOfMemory };
 
@@ -119,7 +120,7 @@ impl<T: Drop> From<AllocFailed<T>> for Error {
     }
 }
 
-/// Does not allocate.
+/// Returns `Io` with the error. Does not allocate.
 impl From<io::Error> for Error {
     ghost from_gives = { λ error e. e ≡ Io error };
 

@@ -1,4 +1,4 @@
-//! Why a value does not grow, in one byte.
+//! The reason why a value does not grow, as a type of one byte.
 ghost use Rattle.std.specs.Prelude.{◌≡◌};
 ghost use Rattle.arrow2_types.specs.Failures.{error_of};
 ghost use Rattle.arrow2_types.specs.declared.growth_error.GrowthError.TheVariants.{OutOfMemory};
@@ -8,8 +8,8 @@ use std::alloc::{AllocError, AllocFailed};
 
 /// Why a value does not grow.
 ///
-/// In the code it takes one byte, and an [`Error`] takes many. Calls inside a loop return it, so that no [`Error`] is
-/// written for each item; the public call converts it to an [`Error`]. Not in arrow2.
+/// It takes one byte, and an [`Error`] takes many. Calls inside a loop return it, so that a step of the loop does not
+/// write a whole [`Error`]. The calls of bitmaps, offsets and arrays convert it to an [`Error`]. Not in arrow2.
 #[derive(Drop)]
 pub enum GrowthError {
     /// A length, a count or an offset would exceed the greatest number of its type.
@@ -18,7 +18,7 @@ pub enum GrowthError {
     OutOfMemory,
 }
 
-/// Does not allocate.
+/// Returns `OutOfMemory`. Does not allocate.
 impl From<AllocError> for GrowthError {
     ghost from_gives = { λ _ error. error ≡ OutOfMemory };
 
@@ -27,7 +27,7 @@ impl From<AllocError> for GrowthError {
     }
 }
 
-/// Drops the value that could not be stored. Does not allocate.
+/// Returns `OutOfMemory`, and drops the value that could not be stored. Does not allocate.
 impl<T: Drop> From<AllocFailed<T>> for GrowthError {
     ghost from_gives = { λ _ error. error ≡ OutOfMemory };
 
@@ -36,7 +36,7 @@ impl<T: Drop> From<AllocFailed<T>> for GrowthError {
     }
 }
 
-/// Does not allocate.
+/// Returns the error of the same name. Does not allocate.
 impl From<GrowthError> for Error {
     ghost from_gives = { λ given e. e ≡ error_of given };
 

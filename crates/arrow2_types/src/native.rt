@@ -61,8 +61,7 @@ pub trait NativeType: Copy + Debug + PartialEq + Default {
     fn from_be_bytes(bytes: Self::Bytes) -> Self
         ensures { result ≡ of_be (Self.Bytes.items bytes) };
 
-    /// Returns these bytes as an array, which generic code can pass to `from_le_bytes` or write to. Requires exactly
-    /// `SIZE` bytes.
+    /// Returns these bytes as an array, which generic code can pass to `from_le_bytes`. Requires exactly `SIZE` bytes.
     fn bytes_of_slice(bytes: &[u8]) -> Self::Bytes
         requires { length bytes.now ≡ SIZE }
         ensures { Self.Bytes.items result ≡ bytes.now };

@@ -16,8 +16,8 @@ use arrow2::error::{Error, Result};
 use std::alloc::Global;
 use std::marker::Model;
 
-/// A column of texts that needs to store a repeated text only once. Contracts see the list of its items, each `None`
-/// or the bytes of a text.
+/// A column of texts, in which a repeated text can be stored once. Contracts see the list of its items, each `None` or
+/// the bytes of a text.
 #[derive(Drop)]
 pub struct Dictionary {
     keys: PrimitiveArray<u32>,

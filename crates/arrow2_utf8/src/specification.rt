@@ -9,7 +9,7 @@ use arrow2_index::Offset;
 use arrow2_offset::{BrokenRule, OffsetsBuffer, broken_rule};
 use std::str;
 
-/// The fault of bytes between offsets that are not all texts.
+/// Why the bytes between offsets are not all texts.
 #[derive(Clone, Copy, Debug, PartialEq, Eq)]
 pub enum BrokenTexts {
     /// The last offset is past the values.
@@ -18,10 +18,10 @@ pub enum BrokenTexts {
     NotUtf8(usize),
 }
 
-/// The fault of numbers that are not offsets, or of bytes between offsets that are not all texts.
+/// Why numbers are not offsets, or why the bytes between them are not all texts.
 #[derive(Clone, Copy, Debug, PartialEq, Eq)]
 pub enum BrokenTextArray {
-    /// The numbers are not offsets: the rule that they break.
+    /// The numbers are not offsets. Holds the first rule that they break.
     Offsets(BrokenRule),
     /// The numbers are offsets, and the bytes between them are not all texts.
     Texts(BrokenTexts),
@@ -49,8 +49,9 @@ pub fn try_check_offsets_bounds<O: Offset>(
 
 /// Tests that the values of each slot, from its offset to the next, are UTF-8. Does not allocate.
 ///
-/// Values outside the offsets are not tested. All values between the first offset and the last are tested at once. If
-/// that fails, they are tested again, slot by slot, up to the first slot that is not UTF-8.
+/// Values outside the offsets are not tested. All values between the first offset and the last are tested at once, and
+/// then that no offset splits a character. If one of the two fails, the values are tested again, slot by slot, up to
+/// the first slot that is not UTF-8.
 ///
 /// Differs from arrow2, whose error has a text, and names no slot.
 ///
@@ -141,8 +142,8 @@ fn are_texts_at_once<O: Offset>(offsets: &[O], values: &[u8]) -> bool
     bytes.is_ascii() || (is_text(bytes) && stand_between(offsets, bytes))
 }
 
-/// Returns whether each offset stands between characters of the bytes that they span. Reads all offsets, without a
-/// branch.
+/// Returns whether no offset splits a character of `bytes`, which are those from the first offset to the last. Reads
+/// all offsets, without a branch.
 #[tactic(auto, using(crate::proofs::Between::positions))]
 fn stand_between<O: Offset>(offsets: &[O], bytes: &[u8]) -> bool
     requires valid { AreOffsets (map O.value offsets.now) }

@@ -51,8 +51,8 @@ impl Validity {
         Validity { len, bitmap: None }
     }
 
-    /// Returns the validity of `len` items by an optional bitmap. Requires that the bitmap, if there is one, has `len`
-    /// items.
+    /// Returns the validity of `len` items with this bitmap; without a bitmap no item is null. Requires that the
+    /// bitmap, if there is one, has `len` items.
     pub fn new(len: usize, bitmap: Option<Bitmap>) -> Validity
         requires same_length { ForSome bitmap (λ b. length (items_of b) ≡ len) }
         ensures value { result ≡ record { len = len; bitmap = bitmap } }
@@ -61,12 +61,13 @@ impl Validity {
         Validity { len, bitmap }
     }
 
-    /// Returns the validity of `len` items by an optional bitmap.
+    /// Returns the validity of `len` items with this bitmap; without a bitmap no item is null.
     ///
     /// # Errors
     ///
-    /// If the bitmap has another length, `InvalidArgumentError`, or `OutOfMemory`, in the code only where the message
-    /// cannot be allocated. After an error the bitmap is dropped.
+    /// It fails exactly if there is a bitmap of another length, with `InvalidArgumentError` or `OutOfMemory`. The code
+    /// returns `OutOfMemory` only if the message cannot be allocated; no clause states that. After an error the bitmap
+    /// is dropped.
     pub fn try_new(len: usize, bitmap: Option<Bitmap>) -> Result<Validity>
         ensures ok { IfOk result (λ v. v ≡ record { len = len; bitmap = bitmap }) }
         ensures len { IfOk result (λ v. length (valid_items v) ≡ len) }
@@ -147,7 +148,7 @@ impl Validity {
         self.bitmap
     }
 
-    /// Returns the bitmap, or `None` where no item is null, also if there is a bitmap. Does not allocate.
+    /// Returns the bitmap if an item is null, else `None`: a bitmap without false items is dropped. Does not allocate.
     pub fn into_null_bitmap(self) -> Option<Bitmap>
         ensures none { IsNone result ↔ (falses (valid_items self) ≡ 0) }
         ensures items { valid_items (record { len = self.len; bitmap = result }) ≡ valid_items self }
@@ -159,9 +160,9 @@ impl Validity {
 
     /// Returns `Right` of a bitmap that grows, or `Left` of the validity as it was.
     ///
-    /// Where there is a bitmap, `Right` comes only if it begins at bit 0. In the code it comes exactly if it begins
-    /// there and nobody else shares its bytes; no clause states the condition on sharing. Without a bitmap, returns
-    /// `Right` of a new one whose items are all true.
+    /// Where there is a bitmap, `Right` comes only if the bitmap begins at bit 0. In the code `Right` comes exactly if
+    /// the bitmap begins there and nobody else shares its bytes; no clause states the condition on sharing. Without a
+    /// bitmap, returns `Right` of a new one whose items are all true.
     ///
     /// # Errors
     ///
@@ -201,13 +202,13 @@ impl Validity {
         }
     }
 
-    /// Returns a validity by which an item is null where it is null in `self` or in `other`. The result has no bitmap
-    /// exactly where neither has one. Requires that both have equal lengths.
+    /// Returns a validity in which an item is null exactly where it is null in `self` or in `other`. The result has no
+    /// bitmap exactly where neither has one. Requires that both have equal lengths.
     ///
     /// # Errors
     ///
-    /// `OutOfMemory` alone, and never where neither has a bitmap. The code returns it only where both have one, or
-    /// where a reference count would overflow, which no clause states.
+    /// `OutOfMemory` alone. Where neither has a bitmap it never fails. The code returns `OutOfMemory` only where both
+    /// have a bitmap, or where a reference count would overflow; no clause states that.
     pub fn both(&self, other: &Validity) -> Result<Validity>
         requires same_length { length (valid_items self.now) ≡ length (valid_items other.now) }
         ensures items { IfOk result (λ v.
@@ -226,8 +227,8 @@ impl Validity {
     }
 }
 
-/// Shares the bytes. Does not allocate: in the code it fails only if a reference count would overflow, which no clause
-/// states. Without a bitmap it never fails.
+/// Shares the bytes. Does not allocate. It fails only if a reference count would overflow, which no clause states.
+/// Without a bitmap it never fails.
 impl Clone for Validity {
     ghost is_clone = { λ a copy. copy ≡ a };
 
@@ -241,8 +242,8 @@ impl Clone for Validity {
     }
 }
 
-/// Appends to `grown` the `len` items of a bitmap from item `start` on. Requires that `start + len` is at most its
-/// length.
+/// Appends to `grown` the `len` items of a bitmap from item `start` on. Requires that `start + len` is at most the
+/// bitmap's length.
 #[tactic(auto, using(arrow2_model::proofs::Cursors::parts))]
 fn append_part(bitmap: &Bitmap, start: usize, len: usize, grown: &mut MutableBitmap) -> Result<()>
     requires inside { start + len ≤ length (items_of bitmap.now) }
@@ -254,12 +255,12 @@ fn append_part(bitmap: &Bitmap, start: usize, len: usize, grown: &mut MutableBit
     grown.extend_from_slice(bytes, offset + start, len)
 }
 
-/// Returns an error where a validity bitmap does not have one item for each value.
+/// Returns `Ok` exactly if a validity bitmap has `values` items, one for each value.
 ///
 /// # Errors
 ///
-/// If the lengths differ, `InvalidArgumentError`, or `OutOfMemory`, in the code only where the message cannot be
-/// allocated.
+/// `InvalidArgumentError` or `OutOfMemory`. The code returns `OutOfMemory` only if the message cannot be allocated; no
+/// clause states that.
 pub fn check_same_length(values: usize, validity: &Bitmap) -> Result<()>
     ensures accepted { IsOk result ↔ (length (items_of validity.now) ≡ values) }
     ensures rejected { FailsOnlyWith result (unequal_lengths_message (length (items_of validity.now)) values) }
@@ -271,7 +272,7 @@ pub fn check_same_length(values: usize, validity: &Bitmap) -> Result<()>
     Ok(())
 }
 
-/// Returns the message for a validity of this length, for `values` values.
+/// Returns the message for a validity of `validity` items where there are `values` values.
 #[tactic(auto, unfolding(crate::specs::Failures::unequal_lengths_message))]
 fn message(alloc: Global, validity: usize, values: usize) -> std::result::Result<String, AllocError>
     ensures { IfOk result (λ text. string_bytes text ≡ unequal_lengths_message validity values) }

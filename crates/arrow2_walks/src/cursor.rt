@@ -5,14 +5,14 @@ ghost use Rattle.arrow2_walks.specs.Cursor.{IsFirst, IsRead};
 
 use arrow2_bits::word_from;
 
-/// An index, and the bits from this index on that were read already, as the lowest bits of a word.
+/// An index, and some bits from this index on that were read already, as the lowest bits of a word.
 #[derive(Clone, Copy, Debug)]
 pub struct BitCursor {
     /// The index.
     pub index: usize,
-    /// The bits that were read, from the index on, the lowest first.
+    /// Bit `i` is the bit at `index + i`, for each `i` below `buffered`. The bits above these are unspecified.
     pub word: u64,
-    /// The number of bits that were read.
+    /// How many of the lowest bits of `word` are bits from `index` on: at most 64.
     pub buffered: usize,
 }
 
@@ -31,10 +31,12 @@ impl BitCursor {
     }
 }
 
-/// Returns a cursor at the first index from `at.index` on and below `end` whose bit is `value`, or at `end` where there
-/// is none. The bit of index `i` is bit `offset + i` of the bytes. Reads each word once, and shifts it past the bits
-/// that it has tested. Requires that `offset + end` is at most eight times the number of bytes, that `at.index` is at
-/// most `end`, and that the bits in `at` are those from its index on, none of them past `end`.
+/// Returns a cursor at the first index in `at.index..end` whose bit is `value`, or at `end` where there is none. The
+/// bit at index `i` is bit `offset + i` of the bytes. Reads each word once, and shifts out the bits that are tested.
+///
+/// Requires that `offset + end` is at most eight times the number of bytes. Requires that `at.buffered` is at most 64,
+/// that `at.index + at.buffered` is at most `end`, and that the lowest `at.buffered` bits of `at.word` are the bits
+/// from `at.index` on.
 ///
 /// arrow2 has this loop only inside its iterator over runs.
 pub fn find_bit(bytes: &[u8], offset: usize, end: usize, at: BitCursor, value: bool) -> BitCursor

@@ -7,10 +7,11 @@ ghost use Rattle.arrow2_walks.specs.Selections.{selection};
 ghost use Rattle.arrow2_walks.specs.Slots.{OptionalZipYieldsFirst, OptionalZipYieldsLast, ZipYieldsFirst, ZipYieldsLast};
 
 /// `rest` maps the iterator over values to the list of items that it has still to yield. `valid` does so for the
-/// iterator over their validity. `view` maps an element that the iterator over values yields to an item, for example a
-/// `&T` to its `T`, and `YieldsFirstBy view` is `YieldsFirst` of these items. Where both lists have equal lengths, and
-/// each iterator yields the first, or the last, item of its list, a step of the zip yields the first, or the last,
-/// slot, and leaves lists of equal lengths.
+/// iterator over their validity. `view` maps each element of the iterator over values to an item, for example a `&T` to
+/// its `T`.
+///
+/// If both lists have equal lengths and each iterator yields the first item of its list, a step of the zip yields the
+/// first item of the zipped list, and leaves lists of equal lengths. The same holds for the last items.
 #[tactic(auto, using(crate::proofs::Slots::slots))]
 pub fn a_zip_yields_its_slots<I: Iterator, V: Iterator<Item = bool>, X>()
     ensures first { (view : I.Item → X) (rest : I → List X) (valid : V → List Bool) →
@@ -19,7 +20,7 @@ pub fn a_zip_yields_its_slots<I: Iterator, V: Iterator<Item = bool>, X>()
         ZipYieldsLast view rest valid }
 {}
 
-/// The same where the validity may be missing: then each value is a slot that is not null.
+/// The same for `ZipValidity`, whose validity may be missing. Where it is missing, no item is null.
 #[tactic(auto, using(crate::proofs::Slots::slots))]
 pub fn a_zip_with_or_without_validity_yields_its_slots<I: Iterator, V: Iterator<Item = bool>, X>()
     ensures first { (view : I.Item → X) (rest : I → List X) (valid : V → List Bool) →
@@ -28,8 +29,8 @@ pub fn a_zip_with_or_without_validity_yields_its_slots<I: Iterator, V: Iterator<
         OptionalZipYieldsLast view rest valid }
 {}
 
-/// The runs of a list are all its maximal runs of true items, each once, in rising order. No other list has this
-/// property.
+/// The runs of a list are all its maximal runs of true items, each once, in rising order. No other list of runs has
+/// this property.
 #[tactic(auto, using(crate::proofs::RunLaws::runs_of_a_list))]
 pub fn runs_are_the_maximal_ones()
     ensures all { (items : List Bool) → AreRuns items (runs items) }
@@ -62,7 +63,8 @@ pub fn runs_lie_inside()
     ensures { (items : List Bool) → All (λ run. run.0 + run.1 ≤ length items) (runs items) }
 {}
 
-/// The parts of a list that the runs of a mask cut out, one after the other, are the items that the mask selects.
+/// The parts of a list that the runs of a mask cut out, one after the other, are the items that the mask selects. The
+/// mask has the list's length.
 pub fn runs_cut_out_the_selected_items<X>()
     ensures { (xs : List X) (mask : List Bool) → length mask ≡ length xs →
         flat_map (λ run. part xs run.0 run.1) (runs mask) ≡ selection xs mask }

@@ -1,4 +1,5 @@
-//! Iterators over bitmaps: values zipped with their validity, and the runs of set bits; and bitmaps in pieces.
+//! Values zipped with their validity, the runs of set bits of a bitmap, and a bitmap that is cut into consecutive
+//! slices.
 #![tactic(auto)]
 
 mod cursor;

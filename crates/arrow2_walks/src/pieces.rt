@@ -1,4 +1,4 @@
-//! A bitmap that is cut again and again, and a count of the bytes that its cuts read.
+//! A bitmap that is cut into consecutive slices, and the number of bytes that the cuts counted as read.
 ghost use Rattle.std.specs.Prelude.{◌≡◌, ◌+◌, ◌-◌, ◌*◌, ◌<◌, ◌≤◌, ◌∷◌, [], length, map, IfOk, IfErr, OnOk, OnErr};
 ghost use Rattle.arrow2_model.specs.Storage.{BitmapStorage, items_of};
 ghost use Rattle.arrow2_model.specs.Touched.{cut_reads, lg, slice_reads};
@@ -11,10 +11,12 @@ use arrow2_types::{Error, Result};
 use std::alloc::Global;
 use std::marker::Model;
 
-/// A bitmap in pieces: contracts see the items of each piece, its bytes, the bit at which its items begin, and how many
-/// bytes the cuts have counted as read. The `k` cuts of `L` items into `k + 1` pieces count at most
-/// `(2 * L * lg L + 30 * k) / 8` bytes, in whatever order the cuts come. Here `lg` is the logarithm to the base 2,
-/// rounded down. It is not proved that the cuts read no further byte.
+/// A bitmap that is cut into consecutive slices, its pieces. Contracts see the items of each piece, its bytes, the bit
+/// at which its items begin, and how many bytes the cuts have counted as read.
+///
+/// The `k` cuts of a bitmap of `L` items, in any order, count at most `(2 * L * lg L + 30 * k) / 8` bytes as read. Here
+/// `lg` is the logarithm to the base 2, rounded down. It is not proved that the cuts read only the bytes that they
+/// count.
 ///
 /// arrow2 has no such type: there a cut is two slices of a clone.
 #[derive(Drop)]
@@ -57,7 +59,8 @@ impl Pieces {
     pub fn len(&self) -> usize
         ensures pieces { result ≡ length self.now.pieces }
         ensures some { 0 < result }
-        // A fact on the value, not on this call, which counts no byte: the cuts so far are within their budget.
+        // The bound on the bytes that the cuts so far have counted as read. It holds for every `Pieces`: this call
+        // counts no byte.
         ensures bound { let n = length (all_items self.now.pieces) in
             8 * self.now.reads ≤ 2 * (n * lg n) + 30 * (result - 1) }
     {
@@ -107,7 +110,8 @@ impl Pieces {
     }
 }
 
-/// Cuts bitmap `p` in two at item `i`, and adds the reads of both slices.
+/// Cuts bitmap `p` in two at item `i`, and adds the reads of both slices. Requires that there is a bitmap `p`, and that
+/// `i` is at most its length.
 fn cut_in_two(bitmaps: &mut Vec<Bitmap>, p: usize, i: usize, reads: &mut Reads) -> Result<()>
     requires below { p < length bitmaps.old.items }
     requires inside { i ≤ length (piece_at (map piece_of bitmaps.old.items) p).items }
@@ -116,7 +120,7 @@ fn cut_in_two(bitmaps: &mut Vec<Bitmap>, p: usize, i: usize, reads: &mut Reads) 
         ≡ cut_at (map piece_of bitmaps.old.items) p i) }
     ensures reads { OnOk result (let old = piece_at (map piece_of bitmaps.old.items) p in
         reads.new ≡ reads.old + cut_reads old.offset (length old.items) i) }
-    // Where the budget of reads held, it holds afterwards, also after an error.
+    // If the reads were within the bound before the call, they are within it afterwards, also after an error.
     ensures paid { IsWithinBudget (map piece_of bitmaps.old.items) reads.old →
         IsWithinBudget (map piece_of bitmaps.new.items) reads.new }
     // A cut that fails changes and counts nothing.

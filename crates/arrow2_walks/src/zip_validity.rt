@@ -14,8 +14,8 @@ use arrow2_bits::BitmapIter;
 /// An iterator over values and their validity, from both ends: an item is `Some` of the value where the value is valid,
 /// and `None` where it is null.
 ///
-/// Differs from arrow2: `nth` is the standard library's, over `next`, and there is no parameter for the type of one
-/// value, which is `I::Item`.
+/// Differs from arrow2: `nth` is the standard library's default, which calls `next`. There is no type parameter for a
+/// value: its type is `I::Item`.
 #[derive(Debug, Clone, Drop)]
 pub struct ZipValidityIter<I, V> {
     values: I,
@@ -34,7 +34,7 @@ impl<I: Iterator, V: Iterator<Item = bool>> ZipValidityIter<I, V> {
     }
 }
 
-/// Returns the slot of a value and its validity, or `None` where either iterator has ended.
+/// Returns the item of a value and its validity, or `None` where either iterator has ended.
 fn zip<X: Drop>(value: Option<X>, is_valid: Option<bool>) -> Option<Option<X>>
     ensures { MatchOption result ((value ≡ None) ⊎ (is_valid ≡ None)) (λ item.
         (x : X) × (valid : Bool) × (value ≡ Some x) × (is_valid ≡ Some valid)
@@ -96,7 +96,7 @@ where
 }
 
 /// An iterator over values, with or without their validity, from both ends. Without validity each item is `Some` of a
-/// value. A caller may match on the variants, for a path of its own where no value is null.
+/// value. A caller may match on the variants, to run a separate loop where no value is null.
 #[derive(Debug, Clone, Drop)]
 pub enum ZipValidity<I, V> {
     /// Values without validity: none is null.
@@ -151,7 +151,7 @@ impl<I: Iterator, V: Iterator<Item = bool>> ZipValidity<I, V> {
 
 impl<'a, I: Iterator> ZipValidity<I, BitmapIter<'a>> {
     /// Returns `Optional` exactly where a validity is given and has an unset bit. Requires that the validity, if there
-    /// is one, has one bit for each value, also where no bit is unset: there arrow2 does not compare the lengths.
+    /// is one, has one bit for each value. arrow2 does not compare the lengths where no bit is unset.
     pub fn new_with_validity(
         values: I,
         validity: Option<&'a Bitmap>,

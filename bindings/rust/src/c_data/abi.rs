@@ -20,7 +20,7 @@ pub struct ArrowSchema {
     pub children: *mut *mut ArrowSchema,
     /// The type of the dictionary, or null.
     pub dictionary: *mut ArrowSchema,
-    /// Frees the private data; null once that was done.
+    /// Frees all that the struct holds; null once that was done.
     pub release: Option<unsafe extern "C" fn(*mut ArrowSchema)>,
     /// The producer's own.
     pub private_data: *mut c_void,
@@ -34,7 +34,7 @@ pub struct ArrowArray {
     pub length: i64,
     /// The number of nulls, or -1.
     pub null_count: i64,
-    /// The first item.
+    /// The index of the first item in the buffers.
     pub offset: i64,
     /// The number of buffers.
     pub n_buffers: i64,
@@ -46,7 +46,7 @@ pub struct ArrowArray {
     pub children: *mut *mut ArrowArray,
     /// The dictionary, or null.
     pub dictionary: *mut ArrowArray,
-    /// Frees the private data; null once that was done.
+    /// Frees all that the struct holds; null once that was done.
     pub release: Option<unsafe extern "C" fn(*mut ArrowArray)>,
     /// The producer's own.
     pub private_data: *mut c_void,
@@ -58,11 +58,11 @@ pub struct ArrowArray {
 pub struct ArrowArrayStream {
     /// Writes the schema, and returns 0 or an `errno`.
     pub get_schema: Option<unsafe extern "C" fn(*mut ArrowArrayStream, *mut ArrowSchema) -> c_int>,
-    /// Writes the next array, which is released where there is none, and returns 0 or an `errno`.
+    /// Writes the next array, or after the last one an array whose `release` is null. Returns 0 or an `errno`.
     pub get_next: Option<unsafe extern "C" fn(*mut ArrowArrayStream, *mut ArrowArray) -> c_int>,
     /// The text of the last error, or null.
     pub get_last_error: Option<unsafe extern "C" fn(*mut ArrowArrayStream) -> *const c_char>,
-    /// Frees the private data; null once that was done.
+    /// Frees all that the struct holds; null once that was done.
     pub release: Option<unsafe extern "C" fn(*mut ArrowArrayStream)>,
     /// The producer's own.
     pub private_data: *mut c_void,

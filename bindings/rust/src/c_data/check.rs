@@ -1,5 +1,5 @@
-//! Whether an array is one of its schema. It traverses the tree as `arrow2_c_data.h` does: each test of bits, offsets,
-//! texts and indices, except of slots of unions, is a call of the library.
+//! Checks whether an array matches its schema. Traverses the tree as `arrow2_c_data.h` does: each test of bits,
+//! offsets, texts and indices, except of slots of unions, is a call of the library.
 
 use super::abi::{ArrowArray, ArrowSchema};
 use super::layout::{Kind, Layout};
@@ -22,13 +22,14 @@ const MAX_BYTES: usize = 1 << 56;
 /// The rule that an array breaks.
 #[derive(Clone, Copy, Debug, PartialEq, Eq)]
 pub enum Broken {
-    /// A rule that the library tests.
+    /// A rule on the bits, offsets, texts or indices of the array, or on its number of nulls.
     Part(Error),
     /// A pointer that the array needs is null.
     Null,
     /// The schema or the array was released.
     Released,
-    /// A length, an offset, or a number of buffers or children is negative, or length + offset is above 2^63 - 1.
+    /// A length, an offset, or a number of buffers or children of the array is negative, or length + offset is above
+    /// 2^63 - 1.
     Negative,
     /// The check does not know the format, and rejects the array.
     Format,
@@ -47,7 +48,7 @@ pub enum Broken {
     UnionOffset,
     /// The tree is deeper than [`MAX_DEPTH`], or has more arrays than [`MAX_ARRAYS`].
     TooLarge,
-    /// A buffer of numbers of several bytes, which the check reads, is not aligned.
+    /// A buffer of offsets or indices that the check reads is not aligned.
     Unaligned,
     /// There are more or fewer sizes than buffers in the tree.
     Sizes,
@@ -109,9 +110,9 @@ impl fmt::Display for Broken {
     }
 }
 
-/// From the root, whose path is empty, to an array of the tree. A step to a child is `list.0`, `fixed_list.0`, `map.0`,
-/// `struct.K` or `union.K`, by the format of the parent; `K` counts children from 0 on. The step to a dictionary is
-/// `dictionary`. A `/` stands between two steps, as in `struct.3/list.0`.
+/// The steps from the root to an array of the tree; the path of the root is empty. A step to a child is `list.0`,
+/// `fixed_list.0`, `map.0`, `struct.K` or `union.K`, by the format of the parent; `K` counts children from 0 on. The
+/// step to a dictionary is `dictionary`. A `/` stands between two steps, as in `struct.3/list.0`.
 #[derive(Clone, Debug, Default, PartialEq, Eq)]
 pub struct Path(Vec<(Kind, Option<usize>)>);
 
@@ -135,8 +136,9 @@ pub struct Rejected {
     pub broken: Broken,
     /// Where the array is in the tree.
     pub path: Path,
-    /// The slot of that array, if the rule is about one, counted from 0 at the array's offset. An offset that breaks a
-    /// rule belongs to the slot that ends at it; the first offset belongs to slot 0.
+    /// The slot of that array, if the rule is about one, counted from 0 at the array's offset. An offset of a text,
+    /// byte string, list or map that breaks a rule belongs to the slot that ends at it; the first offset belongs to
+    /// slot 0. An offset of a dense union belongs to its own slot.
     pub slot: Option<usize>,
 }
 
@@ -174,9 +176,10 @@ fn of_slot(error: ErrorAt) -> Fault {
     Fault(Broken::Part(error.error), Some(error.at))
 }
 
-/// Whether an array is one of a schema, by the sizes in bytes of the tree's buffers: those of an array, then those of
-/// its children in order, then those of its dictionary. A buffer that is null takes a size too. `Some` of no size is an
-/// empty list: any tree that has a buffer is rejected, with [`Broken::Sizes`] unless an earlier rule is broken.
+/// Checks whether an array matches a schema. `sizes` has the number of bytes of each buffer, depth first: those of an
+/// array's own buffers, then those of its children in order, then those of its dictionary. A buffer that is null takes
+/// a size too. `Some(&[])` means that there are no buffers: a tree that has one is rejected, with [`Broken::Sizes`]
+/// unless an earlier rule is broken.
 ///
 /// With `None` the buffers are read to the length that format, length, offset and last offset require. Each is taken to
 /// have 2^56 bytes: what would need more is rejected, with [`Error::PastOffset`] for an offset into binary or utf8
@@ -191,8 +194,8 @@ fn of_slot(error: ErrorAt) -> Fault {
 ///
 /// # Safety
 ///
-/// Each pointer is null, or is what the interface says. Each buffer has at least its size in bytes, or without sizes
-/// the bytes that format, length, offset and last offset require.
+/// Each pointer is null, or points to what the interface specifies. With `Some`, each buffer has at least as many bytes
+/// as its entry of `sizes`; with `None`, at least those that format, length, offset and last offset require.
 pub unsafe fn check_raw(
     schema: *const ArrowSchema,
     array: *const ArrowArray,
@@ -211,8 +214,8 @@ pub unsafe fn check_raw(
     }
 }
 
-/// An array of the tree and its schema. SAFETY, of each `unsafe fn` below: as of [`check_raw`]; where a node is
-/// required to be checked, its head was.
+/// An array of the tree and its schema. SAFETY, of each `unsafe fn` below: as of [`check_raw`]. Where a comment
+/// requires a checked head, the node has passed `check_head`.
 #[derive(Clone, Copy)]
 struct Node {
     schema: *const ArrowSchema,
@@ -263,7 +266,8 @@ struct Buffer {
 }
 
 impl Buffer {
-    /// Whether `count` items of `width` bytes are there and aligned. If nothing is read, any pointer will do.
+    /// Checks that the pointer to `count` items of `width` bytes is not null, and is aligned. If nothing is read, any
+    /// pointer will do.
     fn check_pointer(&self, count: usize, width: usize) -> Result<(), Broken> {
         if count == 0 || width == 0 {
             return Ok(());
@@ -305,7 +309,8 @@ impl Buffer {
         (!self.start.is_null()).then(|| Bits { bytes: unsafe { self.items(0, count) }, offset: self.offset })
     }
 
-    /// Offsets into this number of items: one more than slots. Where there is no slot none is read.
+    /// The offsets of the array, one more than it has slots, which are checked to be at most `items`. Where there is no
+    /// slot none is read.
     unsafe fn offsets<'a, O: Offset>(&self, items: usize) -> Result<&'a [O], Fault> {
         if self.length == 0 {
             return Ok(&[]);
@@ -398,7 +403,8 @@ impl Tree<'_> {
         Ok(())
     }
 
-    /// Whether it is right but for its children and its dictionary. Stays where it is not.
+    /// Checks an array but for its children and its dictionary. On an error, the path is that of the array that is
+    /// wrong.
     unsafe fn check_own(&mut self, node: Node, layout: &Layout<'_>) -> Result<(), Fault> {
         // SAFETY: the caller's.
         unsafe {
@@ -415,7 +421,8 @@ impl Tree<'_> {
         }
     }
 
-    /// Whether there are the buffers, sizes and children that the format has, and a dictionary of both or of none.
+    /// Checks that there are the buffers, sizes and children that the format has, and that both or neither of schema
+    /// and array have a dictionary.
     unsafe fn check_counts(&self, node: Node, layout: &Layout<'_>) -> Result<(), Broken> {
         // SAFETY: the head was checked.
         let (schema, array) = unsafe { (&*node.schema, &*node.array) };
@@ -443,7 +450,8 @@ impl Tree<'_> {
         Ok(())
     }
 
-    /// Whether each child can be read at all. Stays at the one that cannot.
+    /// Checks that each child, and the dictionary, can be read at all. On an error, the path is that of the one that
+    /// cannot.
     unsafe fn check_heads(&mut self, node: Node, layout: &Layout<'_>) -> Result<(), Broken> {
         // SAFETY: the counts were checked.
         unsafe {
@@ -533,8 +541,8 @@ impl Tree<'_> {
         }
     }
 
-    /// Whether each child has `of_a_slot` items for each slot, including those before the offset. Stays at the one that
-    /// has not.
+    /// Checks that each child has `of_a_slot` items for each slot, including those before the offset. On an error, the
+    /// path is that of the child that has not.
     unsafe fn check_lengths(&mut self, node: Node, kind: Kind, of_a_slot: usize) -> Result<(), Fault> {
         // SAFETY: the caller's.
         unsafe {

@@ -21,9 +21,9 @@ pub enum Kind {
     Struct,
     /// Lists of keys and values.
     Map,
-    /// One of several types a slot, each child with an item a slot.
+    /// Each slot has one of several types. Each child has an item for each slot.
     SparseUnion,
-    /// One of several types a slot, each child with its own items.
+    /// Each slot has one of several types. Offsets point to the items of the children.
     DenseUnion,
 }
 
@@ -53,9 +53,9 @@ pub struct Layout<'a> {
     pub kind: Kind,
     /// The bytes of a value or of an offset, or the items of a fixed-size list.
     pub size: usize,
-    /// The letter of a whole number.
+    /// The letter of the format, if it is that of an integer: only integers may be indices of a dictionary.
     pub index: Option<u8>,
-    /// The types of a union, as in the format.
+    /// The type numbers of a union as in the format, such as `5,7`. Empty for other arrays.
     pub types: &'a [u8],
     /// The number of buffers.
     pub buffers: usize,
@@ -123,7 +123,7 @@ impl<'a> Layout<'a> {
         matches!(self.kind, Kind::SparseUnion | Kind::DenseUnion)
     }
 
-    /// Whether an array has a validity: its first buffer.
+    /// Whether the first buffer of this layout is a validity. Its pointer may be null.
     #[must_use]
     pub fn has_validity(&self) -> bool {
         self.buffers > 0 && !self.is_union()
@@ -153,7 +153,7 @@ fn whole_number(digits: &[u8]) -> Option<usize> {
     })
 }
 
-/// The bytes of a decimal: precision, scale, and the bits if there are any.
+/// The number of bytes of a decimal, by the numbers of its format: precision, scale, and the bits if they are there.
 fn decimal(numbers: &[u8]) -> Option<usize> {
     let mut parts = numbers.split(|byte| *byte == b',');
     let precision = whole_number(parts.next()?)?;

@@ -1,4 +1,4 @@
-//! Owners: their arrays and schemas are released exactly once, when they are dropped.
+//! Owners of schemas, arrays and streams: each releases its struct when it is dropped, unless that was released before.
 
 use super::abi::{ArrowArray, ArrowArrayStream, ArrowSchema};
 use super::check::{Rejected, check_raw};
@@ -15,25 +15,26 @@ macro_rules! owner {
         pub struct $name($raw);
 
         impl $name {
-            /// Takes it over.
+            /// Takes over a raw struct.
             ///
             /// # Safety
             ///
-            /// It follows the interface: pointers that are not null point to data as the specification requires, each
-            /// buffer has the bytes that format, length, offset and last offset require, nothing is written while it
-            /// lives, and nobody else releases it.
+            /// The struct follows the interface, and so does each schema and array that a stream returns. Pointers that
+            /// are not null point to data as the specification requires. Each buffer has the bytes that format, length,
+            /// offset and last offset require. Nobody else writes to this data while the owner lives, and nobody else
+            /// releases the struct.
             #[must_use]
             pub unsafe fn from_raw(raw: $raw) -> Self {
                 $name(raw)
             }
 
-            /// Returns the array or schema.
+            /// Returns the raw struct.
             #[must_use]
             pub fn as_raw(&self) -> &$raw {
                 &self.0
             }
 
-            /// Hands it on: whoever has it releases it.
+            /// Returns the raw struct without releasing it: then the caller must release it.
             #[must_use]
             pub fn into_raw(self) -> $raw {
                 let kept = ManuallyDrop::new(self);
@@ -67,11 +68,11 @@ owner!(
 );
 
 impl Array {
-    /// Whether the array is one of the schema: a view of it.
+    /// Checks whether the array matches the schema, and returns a view of it.
     ///
     /// # Errors
     ///
-    /// The first rule that it breaks, and where.
+    /// The first rule that the array breaks, and where.
     pub fn check<'a>(&'a self, schema: &'a Schema) -> Result<View<'a>, Rejected> {
         // SAFETY: both owners follow the interface, as their `from_raw` requires.
         unsafe {
@@ -80,11 +81,12 @@ impl Array {
         }
     }
 
-    /// The same by the sizes in bytes of the tree's buffers, as [`check_raw`] takes them: nothing outside them is read.
+    /// The same as [`Array::check`], with the sizes of all buffers in bytes, in the order of [`check_raw`]. Nothing
+    /// outside these sizes is read.
     ///
     /// # Errors
     ///
-    /// The first rule that it breaks, and where.
+    /// The first rule that the array breaks, and where.
     pub fn check_sized<'a>(&'a self, schema: &'a Schema, sizes: &[usize]) -> Result<View<'a>, Rejected> {
         // SAFETY: as of `check`.
         unsafe {
@@ -97,7 +99,7 @@ impl Array {
 /// The error of a stream that returns no schema or array.
 #[derive(Clone, Copy, Debug, PartialEq, Eq)]
 pub enum StreamError {
-    /// It was released, or lacks a function.
+    /// The stream was released, or lacks a function.
     Released,
     /// An `errno`; [`Stream::last_error`] may have a text.
     Code(c_int),
@@ -106,7 +108,7 @@ pub enum StreamError {
 impl core::fmt::Display for StreamError {
     fn fmt(&self, f: &mut core::fmt::Formatter<'_>) -> core::fmt::Result {
         match self {
-            StreamError::Released => f.write_str("the stream was released"),
+            StreamError::Released => f.write_str("the stream was released, or lacks a function"),
             StreamError::Code(code) => write!(f, "the stream returned code {code}"),
         }
     }
@@ -119,7 +121,7 @@ impl Stream {
     ///
     /// # Errors
     ///
-    /// The error that the stream returns instead.
+    /// [`StreamError::Released`], or the code that the stream returns.
     pub fn schema(&mut self) -> Result<Schema, StreamError> {
         let get = self.0.get_schema.filter(|_| self.0.release.is_some()).ok_or(StreamError::Released)?;
         let mut out = MaybeUninit::zeroed();
@@ -135,7 +137,7 @@ impl Stream {
     ///
     /// # Errors
     ///
-    /// The error that the stream returns instead.
+    /// [`StreamError::Released`], or the code that the stream returns.
     pub fn next_batch(&mut self) -> Result<Option<Array>, StreamError> {
         let get = self.0.get_next.filter(|_| self.0.release.is_some()).ok_or(StreamError::Released)?;
         let mut out = MaybeUninit::zeroed();

@@ -14,7 +14,7 @@ pub struct View<'a> {
     array: &'a ArrowArray,
 }
 
-/// Offsets of either width: one more than slots.
+/// Offsets of either width. There is one offset more than there are slots.
 #[derive(Clone, Copy, Debug, PartialEq, Eq)]
 pub enum Offsets<'a> {
     /// Of 32 bits.
@@ -37,7 +37,7 @@ impl<'a> View<'a> {
         self.array.length as usize
     }
 
-    /// Whether there is none.
+    /// Whether the array has no items.
     #[must_use]
     pub fn is_empty(&self) -> bool {
         self.len() == 0
@@ -73,14 +73,14 @@ impl<'a> View<'a> {
     /// Which items are not null, from [`Bits::offset`] on; `None` where there is no validity bitmap. Then no item is
     /// null, except in a null array, where each is.
     ///
-    /// Only the array's own offset is applied: row `i` of a struct is item `offset() + i` of each child. Nor is the
-    /// validity of a struct applied to its children, and null entries of a dictionary are not seen.
+    /// A child's view does not add the offset of its parent: row `i` of a struct is item `offset() + i` of each child.
+    /// Nulls of a struct are not marked in its children. An index of a null entry of a dictionary counts as not null.
     #[must_use]
     pub fn validity(&self) -> Option<Bits<'a>> {
         if self.layout().has_validity() { self.bits(0) } else { None }
     }
 
-    /// The values of booleans. Without an item there are no bytes, and the buffer is not read.
+    /// The values of a boolean array, `None` for other arrays. An empty array has no bytes, and its buffer is not read.
     #[must_use]
     pub fn booleans(&self) -> Option<Bits<'a>> {
         if self.layout().kind != Kind::Boolean {
@@ -89,8 +89,8 @@ impl<'a> View<'a> {
         if self.is_empty() { Some(Bits { bytes: &[], offset: 0 }) } else { self.bits(1) }
     }
 
-    /// The offsets of texts, byte strings, lists and maps: one more than items. Without an item it is 0 alone, and the
-    /// buffer is not read.
+    /// The offsets of texts, byte strings, lists and maps, `None` for other arrays. There is one offset more than there
+    /// are items. An empty array has the single offset 0, and its buffer is not read.
     #[must_use]
     pub fn offsets(&self) -> Option<Offsets<'a>> {
         let layout = self.layout();
@@ -111,8 +111,9 @@ impl<'a> View<'a> {
         })
     }
 
-    /// The bytes of texts and byte strings up to the last offset, or those of values of a fixed width, from the first
-    /// item on. They need not be aligned for the type of the values: the check does not test it.
+    /// For texts and byte strings: buffer 2, from its first byte to the last offset. For values of a fixed width: the
+    /// bytes of the items, from the first item on. `None` for other arrays. Plain values need not be aligned for their
+    /// type: the check does not test it. (It does where they are the indices of a dictionary.)
     #[must_use]
     pub fn bytes(&self) -> Option<&'a [u8]> {
         let layout = self.layout();
@@ -137,7 +138,8 @@ impl<'a> View<'a> {
         }
     }
 
-    /// The bytes of slot `slot` of texts or byte strings, also of a null.
+    /// The bytes of slot `slot` of texts or byte strings, also of a null. `None` for other arrays, and where there is
+    /// no such slot.
     #[must_use]
     pub fn slot(&self, slot: usize) -> Option<&'a [u8]> {
         let (start, end) = match self.offsets()? {
@@ -147,7 +149,7 @@ impl<'a> View<'a> {
         self.bytes()?.get(start..end)
     }
 
-    /// Child `index`.
+    /// Child `index`, `None` where there is no such child.
     #[must_use]
     pub fn child(&self, index: usize) -> Option<View<'a>> {
         if index >= self.array.n_children as usize {
@@ -157,7 +159,7 @@ impl<'a> View<'a> {
         unsafe { Some(View { schema: &**self.schema.children.add(index), array: &**self.array.children.add(index) }) }
     }
 
-    /// The dictionary that the values are indices of.
+    /// The dictionary that the values are indices of, if there is one.
     #[must_use]
     pub fn dictionary(&self) -> Option<View<'a>> {
         // SAFETY: the check found both null or neither, and went through it.

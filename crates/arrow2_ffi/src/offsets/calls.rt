@@ -62,7 +62,7 @@ pub(crate) fn lengths_unchecked<O: Offset>(offsets: &[O], lengths: &mut [usize])
     ARROW2_OK
 }
 
-/// Writes `start`, then for each length the number before it plus this length.
+/// Writes `start`, then for each length the number written last plus this length.
 pub(crate) fn sums<O: Offset>(start: usize, lengths: &[usize], offsets: &mut [O]) -> u32
     ensures length { result ≡ ARROW2_LENGTH ↔ (length offsets.old ≢ length lengths.now + 1) }
     ensures overflow { result ≡ ARROW2_OVERFLOW ↔

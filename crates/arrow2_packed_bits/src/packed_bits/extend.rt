@@ -108,7 +108,7 @@ impl PackedBits {
     }
 
     /// Appends the items of an iterator by words: eight words at a time, and then the remaining words one by one.
-    /// Unless the iterator has no items, requires that the number of items is a multiple of 8. Requires that there are
+    /// Unless the iterator has no items, requires that the list has a multiple of 8 items. Requires that the list has
     /// at most `usize::MAX` items afterwards.
     fn push_blocks(&mut self, chunks: BitChunks<'_, u64>) -> Result<(), AllocError>
         requires whole { 0 < length chunks.items → length self.old.items % 8 ≡ 0 }
