@@ -133,8 +133,8 @@ static inline uint32_t arrow2_bits_equal(struct arrow2_bits left, struct arrow2_
                              arrow2_c_count(right.bytes, right.bytes_len), right.offset, length, equal);
 }
 
-/* For each i below `length`, where l is bit i of `left` and r is bit i of `right`, writes bit l + 2 * r of `table` to bit
- * i of `out` (see "Truth tables" in arrow2_proved.h). `out` has arrow2_bytes_for(length) bytes. Calls
+/* For each i below `length`, where l is bit i of `left` and r is bit i of `right`, writes bit l + 2 * r of `table` to
+ * bit i of `out` (see "Truth tables" in arrow2_proved.h). `out` has arrow2_bytes_for(length) bytes. Calls
  * arrow2_binary_table. NULL `bytes` counts as 0 bytes here, not as a missing validity. */
 static inline uint32_t arrow2_bits_table(struct arrow2_bits left, struct arrow2_bits right, size_t length,
                                          uint16_t table, uint8_t *out, size_t out_len) {
@@ -235,8 +235,8 @@ static inline uint32_t arrow2_bits_or_kleene(struct arrow2_bits left, struct arr
  * its items is null. So test the format before you take a validity, as `columns.c` of the examples does.
  *
  * Only the array's own offset is applied. The result has no member for the number of bits, which is `array->length`.
- * The first of these bits is bit `result.offset` of `result.bytes`, as in every `struct arrow2_bits`. For a column of a batch
- * call arrow2_bits_of_column. */
+ * The first of these bits is bit `result.offset` of `result.bytes`, as in every `struct arrow2_bits`. For a column
+ * of a batch call arrow2_bits_of_column. */
 static inline struct arrow2_bits arrow2_bits_of(const struct ArrowArray *array, int index) {
     struct arrow2_bits bits = {NULL, 0, 0};
     if (index < 0 || index >= array->n_buffers || !array->buffers[index] || (index > 0 && array->length == 0)) {

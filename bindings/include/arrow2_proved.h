@@ -12,7 +12,8 @@
  * - A pointer to a single value (`zeros`, `equal`, `value`, `at`, `count`, `index`, `slot`) must not be NULL.
  * - NULL never means that a validity is missing. A call that accepts a missing validity has an argument that states
  *   whether it is missing: `all_valid`, `left_all_valid`, `right_all_valid`. Without a validity bitmap pass NULL as
- *   the pointer, 0 as the number of bytes, 0 as the offset, and true as this argument. Every other call needs the bitmap.
+ *   the pointer, 0 as the number of bytes, 0 as the offset, and true as this argument. Every other call needs the
+ *   bitmap.
  * - An output must not overlap any other argument, input or output. `bytes` of the *_assign_table calls and of
  *   arrow2_set_bit, and `*at`, are outputs too. Inputs may overlap each other.
  * - Every `bool` must hold 0 or 1 when the call begins. This also holds for output bools (`*equal`, `*value`, each

@@ -11,7 +11,8 @@ pub enum Error {
     Range,
     /// An output slice does not have exactly the required size: for bits, the number of bytes that
     /// [`crate::bytes_for`] returns. Or the two outputs of [`crate::runs`] differ in length, or the two slices of
-    /// [`crate::widen`] or [`crate::narrow`] do. Or the output of [`crate::Offset::rebase`] is empty.
+    /// [`crate::widen`] or [`crate::narrow`] do. Or the output of a `rebase` call of
+    /// [`crate::Offset`] or [`crate::CheckedOffsets`] is empty.
     Length,
     /// A number is above the greatest offset: `i32::MAX` or `i64::MAX`.
     Overflow,

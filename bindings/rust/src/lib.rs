@@ -5,9 +5,8 @@
 //! overlaps none that is read.
 //!
 //! Bit `i` of bytes is bit `i % 8` of byte `i / 8`, the lowest first. Lengths and offsets of bits are in bits. They
-//! need not be multiples of 8, and numbers that are out of range give an error, also an offset past the end with a
-//! length of
-//! 0. A call that fails writes nothing. Only `c_data` allocates; no call panics.
+//! need not be multiples of 8. Numbers that are out of range give an error; an offset past the end does so with every
+//! length, also 0. A call that fails writes nothing. Only `c_data` allocates; no call panics.
 //!
 //! A truth table is a number: bit `a1 + 2 * a2 + 4 * a3 + 8 * a4` of it is the output for inputs `a1` to `a4`.
 //!

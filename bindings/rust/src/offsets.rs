@@ -85,13 +85,15 @@ macro_rules! offset {
         impl sealed::Sealed for $width {
             #[inline]
             unsafe fn lengths_unchecked(offsets: &[Self], out: &mut [usize]) -> u32 {
-                // SAFETY: the slices are borrowed for the call, `out` alone, and it keeps none. The caller has offsets.
+                // SAFETY: the slices are borrowed for the call, `out` exclusively, and the call keeps none. The numbers
+                // are offsets, as the caller ensures.
                 unsafe { sys::$lengths_unchecked(offsets.as_ptr(), offsets.len(), out.as_mut_ptr(), out.len()) }
             }
 
             #[inline]
             unsafe fn rebase_unchecked(offsets: &[Self], from: usize, out: &mut [Self]) -> u32 {
-                // SAFETY: the slices are borrowed for the call, `out` alone, and it keeps none. The caller has offsets.
+                // SAFETY: the slices are borrowed for the call, `out` exclusively, and the call keeps none. The numbers
+                // are offsets, as the caller ensures.
                 unsafe { sys::$rebase_unchecked(offsets.as_ptr(), offsets.len(), from, out.as_mut_ptr(), out.len()) }
             }
         }
@@ -105,13 +107,13 @@ macro_rules! offset {
 
             #[inline]
             fn lengths(offsets: &[Self], out: &mut [usize]) -> Result<(), Error> {
-                // SAFETY: the slices are borrowed for the call, `out` alone, and it keeps none.
+                // SAFETY: the slices are borrowed for the call, `out` exclusively, and the call keeps none.
                 to_result(unsafe { sys::$lengths(offsets.as_ptr(), offsets.len(), out.as_mut_ptr(), out.len()) })
             }
 
             #[inline]
             fn from_lengths(start: usize, lengths: &[usize], out: &mut [Self]) -> Result<(), Error> {
-                // SAFETY: the slices are borrowed for the call, `out` alone, and it keeps none.
+                // SAFETY: the slices are borrowed for the call, `out` exclusively, and the call keeps none.
                 to_result(unsafe {
                     sys::$from_lengths(start, lengths.as_ptr(), lengths.len(), out.as_mut_ptr(), out.len())
                 })
@@ -119,14 +121,14 @@ macro_rules! offset {
 
             #[inline]
             fn rebase(offsets: &[Self], from: usize, out: &mut [Self]) -> Result<(), Error> {
-                // SAFETY: the slices are borrowed for the call, `out` alone, and it keeps none.
+                // SAFETY: the slices are borrowed for the call, `out` exclusively, and the call keeps none.
                 to_result(unsafe { sys::$rebase(offsets.as_ptr(), offsets.len(), from, out.as_mut_ptr(), out.len()) })
             }
 
             #[inline]
             fn check_inside(offsets: &[Self], items: usize) -> Result<(), ErrorAt> {
                 let mut index = 0;
-                // SAFETY: all is borrowed for the call, `index` alone, and it keeps nothing.
+                // SAFETY: all is borrowed for the call, `index` exclusively, and the call keeps nothing.
                 let code = unsafe { sys::$inside(offsets.as_ptr(), offsets.len(), items, &mut index) };
                 to_result_at(code, index)
             }
@@ -134,7 +136,7 @@ macro_rules! offset {
             #[inline]
             fn check_texts(offsets: &[Self], values: &[u8]) -> Result<(), ErrorAt> {
                 let mut index = 0;
-                // SAFETY: all is borrowed for the call, `index` alone, and it keeps nothing.
+                // SAFETY: all is borrowed for the call, `index` exclusively, and the call keeps nothing.
                 let code =
                     unsafe { sys::$texts(offsets.as_ptr(), offsets.len(), values.as_ptr(), values.len(), &mut index) };
                 to_result_at(code, index)
@@ -219,7 +221,7 @@ impl<'a, O: Offset> CheckedOffsets<'a, O> {
 /// As [`Offset::check`], else [`Error::Length`] exactly where `out.len()` is not `offsets.len()`.
 #[inline]
 pub fn widen(offsets: &[i32], out: &mut [i64]) -> Result<(), Error> {
-    // SAFETY: the slices are borrowed for the call, `out` alone, and it keeps none.
+    // SAFETY: the slices are borrowed for the call, `out` exclusively, and the call keeps none.
     to_result(unsafe { sys::arrow2_offsets_widen(offsets.as_ptr(), offsets.len(), out.as_mut_ptr(), out.len()) })
 }
 
@@ -230,6 +232,6 @@ pub fn widen(offsets: &[i32], out: &mut [i64]) -> Result<(), Error> {
 /// As [`widen`], else [`Error::Overflow`] exactly where the last offset is above `i32::MAX`.
 #[inline]
 pub fn narrow(offsets: &[i64], out: &mut [i32]) -> Result<(), Error> {
-    // SAFETY: the slices are borrowed for the call, `out` alone, and it keeps none.
+    // SAFETY: the slices are borrowed for the call, `out` exclusively, and the call keeps none.
     to_result(unsafe { sys::arrow2_offsets_narrow(offsets.as_ptr(), offsets.len(), out.as_mut_ptr(), out.len()) })
 }

@@ -22,7 +22,7 @@ const MAX_BYTES: usize = 1 << 56;
 /// The rule that an array breaks.
 #[derive(Clone, Copy, Debug, PartialEq, Eq)]
 pub enum Broken {
-    /// A rule on the bits, offsets, texts or indices of the array, or on its number of nulls.
+    /// A rule on the sizes of buffers, or on the bits, offsets, texts, indices or number of nulls of the array.
     Part(Error),
     /// A pointer that the array needs is null.
     Null,
@@ -194,8 +194,9 @@ fn of_slot(error: ErrorAt) -> Fault {
 ///
 /// # Safety
 ///
-/// Each pointer is null, or points to what the interface specifies. With `Some`, each buffer has at least as many bytes
-/// as its entry of `sizes`; with `None`, at least those that format, length, offset and last offset require.
+/// Each pointer is null, or points to what the interface specifies. With `Some`, each buffer that is not null has at
+/// least as many bytes as its entry of `sizes`; with `None`, at least those that format, length, offset and last offset
+/// require.
 pub unsafe fn check_raw(
     schema: *const ArrowSchema,
     array: *const ArrowArray,
@@ -309,8 +310,8 @@ impl Buffer {
         (!self.start.is_null()).then(|| Bits { bytes: unsafe { self.items(0, count) }, offset: self.offset })
     }
 
-    /// The offsets of the array, one more than it has slots, which are checked to be at most `items`. Where there is no
-    /// slot none is read.
+    /// Checks the offsets of the array, none of which may be above `items`, and returns them: one more than there are
+    /// slots. Where there is no slot none is read.
     unsafe fn offsets<'a, O: Offset>(&self, items: usize) -> Result<&'a [O], Fault> {
         if self.length == 0 {
             return Ok(&[]);

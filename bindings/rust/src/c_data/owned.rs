@@ -21,8 +21,8 @@ macro_rules! owner {
             ///
             /// The struct follows the interface, and so does each schema and array that a stream returns. Pointers that
             /// are not null point to data as the specification requires. Each buffer has the bytes that format, length,
-            /// offset and last offset require. Nobody else writes to this data while the owner lives, and nobody else
-            /// releases the struct.
+            /// offset and last offset require. Nothing is written to this data while the owner lives, except by the
+            /// calls of a stream to the stream itself. Nobody else releases the struct.
             #[must_use]
             pub unsafe fn from_raw(raw: $raw) -> Self {
                 $name(raw)

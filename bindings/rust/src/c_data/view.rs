@@ -74,7 +74,8 @@ impl<'a> View<'a> {
     /// null, except in a null array, where each is.
     ///
     /// A child's view does not add the offset of its parent: row `i` of a struct is item `offset() + i` of each child.
-    /// Nulls of a struct are not marked in its children. An index of a null entry of a dictionary counts as not null.
+    /// The validity of a struct is not applied to its children. An index of a null entry of a dictionary counts as not
+    /// null.
     #[must_use]
     pub fn validity(&self) -> Option<Bits<'a>> {
         if self.layout().has_validity() { self.bits(0) } else { None }
