@@ -29,6 +29,18 @@ fn extend(
     grown
 }
 
+/// Appends booleans to the items.
+fn extend_by_bools(
+    rt: &impl Abort,
+    alloc: Global,
+    items: &[bool],
+    bools: &[bool],
+) -> MutableBitmap {
+    let mut grown = grown_from(rt, alloc, items);
+    ok(rt, grown.extend_from_bools(bools));
+    grown
+}
+
 /// Freezes the bitmap, and checks its length, its number of false items, and its runs.
 fn has_runs(
     rt: &impl Abort,
@@ -55,6 +67,19 @@ fn bits_and_words_are_appended_within_a_byte(rt: HostRuntime) {
     shows(&rt, alloc, &grown, "[0b10110101, 0b___11011]");
     let grown = extend(&rt, alloc, &[false; 5], &[255; 20], 3, 150);
     has_runs(&rt, alloc, grown, [155, 5], &[(5, 150)]);
+}
+
+#[test]
+fn booleans_are_appended_by_words_and_a_rest(rt: HostRuntime) {
+    let alloc = rt.alloc();
+    let grown = extend_by_bools(&rt, alloc, &[true; 3], &[false, true]);
+    shows(&rt, alloc, &grown, "[0b___10111]");
+    let grown = extend_by_bools(&rt, alloc, &[false; 5], &[true; 150]);
+    has_runs(&rt, alloc, grown, [155, 5], &[(5, 150)]);
+    let grown = extend_by_bools(&rt, alloc, &[false; 64], &[true; 128]);
+    has_runs(&rt, alloc, grown, [192, 64], &[(64, 128)]);
+    let grown = extend_by_bools(&rt, alloc, &[true; 9], &[]);
+    has_runs(&rt, alloc, grown, [9, 0], &[(0, 9)]);
 }
 
 #[test]

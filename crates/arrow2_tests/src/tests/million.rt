@@ -46,6 +46,9 @@ fn is_packed(rt: &impl Abort, alloc: Global) {
     counts(rt, Bitmap::from_bools(alloc, list.as_slice()), MILLION);
     let grown = MutableBitmap::from_bools(alloc, list.as_slice());
     counts(rt, grown.and_then(Bitmap::try_from), MILLION);
+    let mut grown = MutableBitmap::new(alloc);
+    ok(rt, grown.extend_from_bools(list.as_slice()));
+    counts(rt, Bitmap::try_from(grown), MILLION);
 }
 
 #[test]

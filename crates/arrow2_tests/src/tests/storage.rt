@@ -206,6 +206,16 @@ fn goes_by_operators(rt: &impl Abort, (left, list): Of, (right, others): Of) {
     becomes(rt, turned, lists::looked_up(alloc, 0b0101, list, others));
 }
 
+/// Appends the list of booleans at each bit index.
+fn is_appended_as_booleans(rt: &impl Abort, alloc: Global, list: &[bool]) {
+    for count in 0..16usize {
+        let own = ok(rt, lists::thirds(alloc, count));
+        let mut grown = ok(rt, MutableBitmap::from_bools(alloc, own.as_slice()));
+        ok(rt, grown.extend_from_bools(list));
+        becomes(rt, grown, lists::append(own, list));
+    }
+}
+
 /// Appends the bytes of the list at each bit index.
 fn is_appended(rt: &impl Abort, (bitmap, list): Of) {
     let alloc = bitmap.allocator();
@@ -332,6 +342,9 @@ fn at_each_offset(rt: &impl Abort, alloc: Global, len: usize) {
         list_without_pattern(rt, alloc, 2, len),
     );
     let (list, others) = (list.as_slice(), others.as_slice());
+    if len <= 200 {
+        is_appended_as_booleans(rt, alloc, list);
+    }
     for offset in 0..16 {
         let left = bitmap_at(rt, alloc, list, offset, true, 1);
         let alike = bitmap_at(rt, alloc, others, offset, true, 0);
