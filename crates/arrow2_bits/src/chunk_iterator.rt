@@ -108,10 +108,10 @@ impl<'a, T: BitChunk> BitChunks<'a, T> {
         self.count
     }
 
-    /// Returns the word that holds the remainder in its lowest bits. The bits above the remainder are not masked. In
-    /// the byte that holds the last item they are the padding bits; above this byte they are false. The exception is an
-    /// iterator that was made of fewer bits than a word has: there they are whatever bits are stored after the
-    /// remainder. So mask the word to [`BitChunks::remainder_len`] bits.
+    /// Returns the word that holds the remainder in its lowest bits. The bits above the remainder are not masked. The
+    /// lowest of them are the padding bits of the stored byte that holds the last item; the others are false. The
+    /// exception is an iterator that was made of fewer bits than a word has: there they are whatever bits are stored
+    /// after the remainder. So mask the word to [`BitChunks::remainder_len`] bits.
     pub fn remainder(&self) -> T
         ensures spill { T.number result ≡ self.now.spill }
         ensures rest { take (length (rest T.WIDTH self.now.items))

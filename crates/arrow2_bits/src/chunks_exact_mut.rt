@@ -60,7 +60,7 @@ impl<'a, T: BitChunk> BitChunksExactMut<'a, T> {
         ensures at { result.at ≡ 0 }
         ensures size { result.size ≡ T.SIZE }
         ensures left { chunks_left result ≡ len / 8 / T.SIZE }
-        // The bytes after them, and the number of bits in these bytes.
+        // The bytes after them, up to the one that holds the last bit, and how many of the `len` bits they hold.
         ensures remainder { let full = T.SIZE * (len / 8 / T.SIZE) in
             result.remainder ≡ part bytes.old full ((len + 7) / 8 - full) }
         ensures remainder_len { result.remainder_len

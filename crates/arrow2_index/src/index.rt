@@ -52,7 +52,8 @@ pub trait Index: NativeType + Ord + AddAssign + Sub<Self, Output = Self> + One +
         Some(IndexRange::new(start, end))
     }
 
-    // The bytes of a number are the digits of its value to the base 256: the lowest first, and the highest first.
+    // The bytes of a number are the digits of its value to the base 256: in little-endian order the lowest first, in
+    // big-endian order the highest first.
     ghost digits_law: { (x : Self) → Self.le_digits x ≡ digits Self.SIZE (Self.value x) };
 
     ghost be_digits_law: { (x : Self) → Self.be_digits x ≡ reverse (digits Self.SIZE (Self.value x)) };

@@ -41,7 +41,7 @@ pub trait WordRows<B: BitChunk>: Drop {
         ensures fits { AreWords B.WIDTH (words result) };
 }
 
-/// Rows of no list: one row without words for each full word of `left` items.
+/// Rows of no list: a row without words for each full word of `left` items, and one for the items after these words.
 #[derive(Drop)]
 pub struct NoList {
     /// The number of items still to come.
@@ -128,8 +128,8 @@ impl<B: BitChunk, L: WordRows<B>, R: WordRows<B>> WordRows<B> for ZipRows<L, R> 
     }
 }
 
-/// Rows of two lists, read by words of 64 bits: a type without parameters. Two pairs, zipped, give the rows of four
-/// lists.
+/// Rows of two lists, read by words of 64 bits: a type without type parameters. Two pairs, zipped, give the rows of
+/// four lists.
 #[derive(Drop)]
 pub struct Pair<'a> {
     /// The lists.

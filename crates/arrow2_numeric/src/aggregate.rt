@@ -30,8 +30,8 @@ pub trait WholeNumber: NativeType {
         ensures low { negsuc (2 ^ 63 - 1) ≤ℤ result }
         ensures high { result ≤ℤ pos (2 ^ 64 - 1) };
 
-    /// Returns the number of values. It is below 2⁶³, since each value takes a byte of memory or more. The functions
-    /// below that add the values call it in place of `len`, since their proofs need this bound.
+    /// Returns the number of values. It is below 2⁶³, since each value takes a byte of memory or more. `sum_of_values`
+    /// calls it in place of `len`, and `sum_of_valid` for its proof alone: both proofs need this bound.
     fn count(values: &[Self]) -> usize
         ensures value { result ≡ length values.now }
         ensures few { result < 2 ^ 63 };
@@ -191,7 +191,8 @@ fn with_halves(sums: (i64, u64), number: i128) -> (i64, u64)
     (sums.0 + upper, sums.1 + lower)
 }
 
-/// Returns the quotient of a number and 2³², rounded down, and its lowest 32 bits.
+/// Returns the halves of a number of 64 bits, with or without a sign. The upper half is the quotient of the number and
+/// 2³², rounded down. The lower half is the lowest 32 bits of the number.
 fn halves(number: i128) -> (i64, u64)
     requires low { negsuc (2 ^ 63 - 1) ≤ℤ number }
     requires high { number ≤ℤ pos (2 ^ 64 - 1) }
@@ -313,8 +314,9 @@ fn best_item<T: NativeType, C: Choice<T>>(array: &PrimitiveArray<T>) -> Option<T
     }
 }
 
-/// Combines the values by `C::of_two`, from the first to the last. Returns `None` where there is none. Requires that
-/// the choice is associative. Reads both halves at once: the processor fetches two streams of values faster than one.
+/// Returns the result of combining the values by `C::of_two`, from the first to the last, or `None` where there is no
+/// value. Requires that the choice is associative. Reads both halves at once: the processor fetches two streams of
+/// values faster than one.
 fn best_of_halves<T: NativeType, C: Choice<T>>(values: &[T]) -> Option<T>
     requires associative { (x y z : T) → C.kept (C.kept x y) z ≡ C.kept x (C.kept y z) }
     ensures { result ≡ best_from C.kept None values.now }
@@ -348,7 +350,7 @@ fn best_valid<T: NativeType, C: Choice<T>>(values: &[T], validity: &Bitmap) -> O
     best
 }
 
-/// Combines the values whose bit in `word` is set by `C::of_two`, from the first to the last. If there is a `best`, it
+/// Combines by `C::of_two`, from the first to the last, the values whose bit in `word` is set. If there is a `best`, it
 /// comes before them. Requires at most 64 values.
 #[tactic(auto, using(crate::proofs::Best::best, crate::proofs::Selecting::selecting))]
 fn best_of_word<T: NativeType, C: Choice<T>>(best: Option<T>, values: &[T], word: u64) -> Option<T>

@@ -15,9 +15,9 @@ use num_traits::PrimInt;
 use std::alloc::Global;
 use std::rc::Rc;
 
-/// Casts each item to `O`. An item of the result is null where the item of `array` is null, or where its value does not
-/// fit `O`. The result has a validity bitmap exactly if an item of it is null. Requires that the physical type of
-/// `data_type` is that of `O`.
+/// Casts each item to `O`, as the same number. An item of the result is null where the item of `array` is null, or
+/// where its value does not fit `O`. The result has a validity bitmap exactly if an item of it is null. Requires that
+/// the physical type of `data_type` is that of `O`.
 ///
 /// Differs from arrow2, which takes floats too.
 ///
@@ -44,9 +44,9 @@ pub fn primitive_to_primitive<I: NativeType + PrimInt, O: NativeType + PrimInt>(
     numbers.freeze()
 }
 
-/// Casts each item to `O`, or fails if the value of an item does not fit. An item of the result is null where the item
-/// of `array` is null. The result has a validity bitmap exactly if an item of it is null. Requires that the physical
-/// type of `data_type` is that of `O`.
+/// Casts each item to `O`, as the same number, or fails if the value of an item does not fit. An item of the result is
+/// null where the item of `array` is null. The result has a validity bitmap exactly if an item of it is null. Requires
+/// that the physical type of `data_type` is that of `O`.
 ///
 /// Reads the values twice: first it checks that all of them fit, then it allocates and casts. arrow2 has no such call.
 ///

@@ -1,5 +1,5 @@
 //! Functions on whole arrays of numbers: comparisons, sums, the least and the greatest item, casts. `MaskedBlocks`
-//! yields values in blocks of 64, with each block a word: the items of a mask for its values.
+//! yields values in blocks of 64, and with each block a word: the items of a mask for its values.
 #![tactic(auto)]
 
 pub mod aggregate;

@@ -1,4 +1,4 @@
-//! Packs booleans into bytes, 64 at a time, and appends them where the bits may end inside a byte. Works on bytes and
+//! Packs booleans into bytes, 64 at a time, and appends them to bits that may end inside a byte. Works on bytes and
 //! words alone.
 #![tactic(auto)]
 

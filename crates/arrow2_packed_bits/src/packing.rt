@@ -74,8 +74,8 @@ fn fill<I: Iterator<Item = bool>>(items: &mut I, block: &mut [bool; 64]) -> usiz
     64
 }
 
-/// Returns the bytes of the items. No clause states what the bits after the items are, nor how many bytes there are
-/// after them: these bits are false, in at most eight bytes. Allocates once.
+/// Returns the bytes of the items. In the code the bits after the items are false, and they are in at most eight bytes;
+/// no clause states either. Allocates once.
 ///
 /// # Errors
 ///

@@ -6,7 +6,8 @@ use arrow2_streams::fault::exit_code;
 use arrow2_streams::watched::Watched;
 use std::process::ExitCode;
 
-/// Ends with status 0. Where the replay fails, prints the fault to standard error and ends with status 1.
+/// Ends with status 0 where the replay succeeds. Where it fails, prints the fault to standard error and ends with
+/// status 1.
 fn main(rt: HostRuntime) -> ExitCode {
     let mut reader = Watched::new(rt.stdin());
     let mut writer = Watched::new(rt.stdout());

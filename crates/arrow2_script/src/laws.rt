@@ -8,8 +8,8 @@ ghost use Rattle.arrow2_script.specs.Commands.{command_in, IsSpelling};
 ghost use Rattle.arrow2_script.specs.declared.command.Command.{Command};
 ghost use Rattle.arrow2_script.specs.declared.words.Width.{Width};
 
-/// The lines of a script hold no line end. Joined, with a line end after each, they equal the script; where its last
-/// line has no line end, one is added. No other list of lines has these two properties.
+/// The lines of a script hold no line end. Joined, with a line end after each, they equal the script, to which a line
+/// end is added if its last line has none. No other list of lines has these two properties.
 pub fn lines_of_a_script()
     ensures are { (script : List ℕ) → AreLines script (lines_of script) }
     ensures only { (script : List ℕ) (lines : List (List ℕ)) → AreLines script lines →

@@ -136,7 +136,7 @@ impl<'a> Word<'a> for Option<SlotIndex> {
     }
 }
 
-/// A width: how many bits the words have that a command reads a bitmap by.
+/// A width: the number of bits of a word, for a command that reads or changes a bitmap by words.
 #[derive(Clone, Copy, Debug, PartialEq, Eq)]
 pub enum Width {
     /// 8 bits.

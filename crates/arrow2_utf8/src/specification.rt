@@ -49,9 +49,9 @@ pub fn try_check_offsets_bounds<O: Offset>(
 
 /// Tests that the values of each slot, from its offset to the next, are UTF-8. Does not allocate.
 ///
-/// Values outside the offsets are not tested. All values between the first offset and the last are tested at once, and
-/// then that no offset splits a character. If one of the two fails, the values are tested again, slot by slot, up to
-/// the first slot that is not UTF-8.
+/// Values outside the offsets are not tested. First all values between the first offset and the last are tested at
+/// once. Then, unless all of them are ASCII, it is tested that no offset splits a character. If one of the two tests
+/// fails, the values are tested again, slot by slot, up to the first slot that is not UTF-8.
 ///
 /// Differs from arrow2, whose error has a text, and names no slot.
 ///

@@ -63,8 +63,8 @@ pub fn runs_lie_inside()
     ensures { (items : List Bool) → All (λ run. run.0 + run.1 ≤ length items) (runs items) }
 {}
 
-/// The parts of a list that the runs of a mask cut out, one after the other, are the items that the mask selects. The
-/// mask has the list's length.
+/// If a mask has the length of a list, the parts of the list that the runs of the mask cut out, one after the other,
+/// are the items that the mask selects.
 pub fn runs_cut_out_the_selected_items<X>()
     ensures { (xs : List X) (mask : List Bool) → length mask ≡ length xs →
         flat_map (λ run. part xs run.0 run.1) (runs mask) ≡ selection xs mask }
