@@ -15,7 +15,7 @@ use arrow2_chunk::BitChunkOnes;
 use arrow2_primitive::PrimitiveArray;
 use arrow2_types::NativeType;
 
-/// The greatest number of values that [`sum_of_block`] takes. For so many, the sum of the upper halves fits an `i64`,
+/// The greatest number of values that [`sum_of_block`] takes. Up to it, the sum of the upper halves fits an `i64`,
 /// and the sum of the lower halves, of 32 bits each, fits a `u64`.
 const BLOCK: usize = 1 << 31;
 
