@@ -109,7 +109,7 @@ all_known t xs ns ys ms known e is-n is-m =
     let right : get_or (replicate (length ys) true) k false ≡ true = get_or-replicate (length ys) k true false (omega (arith, e)) in
     left ∙ rw (is-n, is-m, left, right) (sym (known (get_or xs k false) (get_or ys k false))))
 
--- a table of three lists is that of four, one of which is all set
+-- a table of three lists has the outputs of one of four, if the fourth list is true everywhere
 pub paired_right : (t u : ℕ) (xs ns ys ms : List Bool) → ((a n b : Bool) → answer u (a ∷ n ∷ b ∷ []) ≡ answer t (a ∷ n ∷ b ∷ true ∷ [])) → length xs ≡ length ys → ms ≡ replicate (length ys) true
     → each u (xs ∷ ns ∷ ys ∷ []) ≡ each t (xs ∷ ns ∷ ys ∷ ms ∷ [])
 paired_right t u xs ns ys ms paired e is =

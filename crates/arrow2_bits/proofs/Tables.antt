@@ -18,8 +18,8 @@ none = 0 ∷ 0 ∷ 0 ∷ 0 ∷ 0 ∷ 0 ∷ 0 ∷ 0 ∷ []
 abbrev each_bit : List ℕ
 each_bit = 1 ∷ 2 ∷ 4 ∷ 8 ∷ 16 ∷ 32 ∷ 64 ∷ 128 ∷ []
 
--- the masks by which bit i is written: what the byte keeps; 8 entries later, what is written for false; and 8 later,
--- for true
+-- the masks by which bit i is written: the bits that the byte keeps; 8 entries later, the bits that are set for false;
+-- and 8 later, for true
 abbrev pub masks : List ℕ
 masks = kept ++ (none ++ each_bit)
 

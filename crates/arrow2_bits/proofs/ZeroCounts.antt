@@ -27,7 +27,7 @@ ones_fetched bytes fetched at k ones inside got counted =
     let same = ap falses (part-bits bytes at k inside ∙ ap bits (sym got)) in
     omega (arith, same, counted)
 
--- bytes in two parts, the second of which is read later
+-- bytes in two parts; the second part is read later
 pub ones_in_two : (bytes later : List ℕ) (first m n count a b : ℕ) → later ≡ bytes → count ≡ m + n → a + falses (part (bits bytes) (8 * first) (8 * m)) ≡ 8 * m → b + falses (part (bits later) (8 * (first + m)) (8 * n)) ≡ 8 * n
     → a + b + falses (part (bits bytes) (8 * first) (8 * count)) ≡ 8 * count
 ones_in_two bytes later first m n count a b same e is-a is-b =

@@ -88,7 +88,7 @@ impl<'a, T> BitChunksExactMut<'a, T> {
     /// chunk and holds the bytes that were written through the slice, and every other byte is as it was.
     ///
     /// A caller whose contract states what the bytes hold afterwards uses [`BitChunksExactMut::change_next`]: where a
-    /// `&mut` was inside an `Option`, the prover does not learn what was written through it.
+    /// `&mut` was inside an `Option`, the prover does not learn the values that were written through it.
     ///
     /// arrow2 has only the iterator's `next`.
     pub fn next_chunk(&mut self) -> Option<&mut [u8]>

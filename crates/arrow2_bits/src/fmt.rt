@@ -11,8 +11,8 @@ use std::fmt;
 /// Writes the `len` bits from bit `offset` on, byte by byte. Each byte that holds one of these bits is written as `0b`
 /// and its eight bits, from the highest to the lowest, with `_` for a bit that is not one of these. The bytes are
 /// joined by a comma and a space, and enclosed in brackets. Where `len` is 0, the text is `[]`. Ignores the formatter's
-/// options, such as a width or `#`. No clause states what is written where the bits are printed as a part of another
-/// value by `{:#?}`: that formatter indents each line.
+/// options, such as a width or `#`. No clause states the text of bits that are printed as a part of another value by
+/// `{:#?}`: that formatter indents each line.
 ///
 /// Requires that `offset` is below 8 and, unless `len` is 0, that the bits are inside the bytes. arrow2 may print a
 /// byte after the bits in place of their last byte.

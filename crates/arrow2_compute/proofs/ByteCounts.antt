@@ -8,7 +8,7 @@ use Rattle.arrow2_types.specs.declared.error.Error.{Error}
 use Rattle.arrow2_walks.specs.Selections.{selection, choice}
 use Rattle.arrow2_walks.proofs.Selections.{selections}
 
--- what is selected is no more than all
+-- the sum of selected numbers is at most the sum of all
 pub sum-selected : (ns : List ℕ) (ms : List Bool) → sum (selection ns ms) ≤ sum ns
 sum-selected [] ms = omega arith
 sum-selected (n ∷ ns) [] = omega arith
@@ -25,7 +25,7 @@ module _ {Y : Type 0} (f : Y → List ℕ) where
   pub sum-first : (left rest : List Y) (y : Y) → left ≡ y ∷ rest → sum (flat_map f left) ≡ sum (f y) + sum (flat_map f rest)
   sum-first left rest y first = ap (λ l. sum (flat_map f l)) first ∙ sum_by-append (λ x. x) (f y) (flat_map f rest)
 
--- what is taken at the first indices and at one more weighs no more than all
+-- the items at the first indices and at one more weigh at most as much as those at all indices
 pub taken-fits : {I X : Type 0} (weight : X → ℕ) (f : I → X) (xs : List I) (k : ℕ) (d : I) → k < length xs
     → sum_by weight (map f (take k xs)) + weight (f (get_or xs k d)) ≤ sum_by weight (map f xs)
 taken-fits weight f xs k d less =
@@ -34,7 +34,7 @@ taken-fits weight f xs k d less =
     let e = sum_by_push weight (map f (take k xs)) (f (get_or xs k d)) in
     omega (arith, a, b, e)
 
--- and what is chosen at the first indices
+-- the same of a choice between two lists
 pub chosen-fits : {X : Type 0} (weight : X → ℕ) (n : ℕ) (ms : List Bool) (xs ys : List X) → sum_by weight (choice (take n ms) (take n xs) (take n ys)) ≤ sum_by weight (choice ms xs ys)
 chosen-fits weight zero ms xs ys = omega arith
 chosen-fits weight (suc n) [] xs ys = omega arith

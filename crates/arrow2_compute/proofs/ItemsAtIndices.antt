@@ -13,7 +13,7 @@ use Rattle.arrow2_walks.proofs.Zipped.{at-zipped}
 use Rattle.arrow2_compute.specs.Take.{IsItemAt}
 
 module _ {X : Type 0} where
-  -- what stands at the indices and what is valid there are the items there
+  -- the values and the validity at the indices are the items there
   pub taken-zipped : (xs : List X) (vs : List Bool) (positions : List ℕ) (ys : List X) → length vs ≡ length xs
       → All (λ position. position < length xs) positions → AllZip (IsItemAt xs) positions ys
       → zipped ys (map (λ position. get_or vs position false) positions) ≡ map (λ position. get_or (zipped xs vs) position None) positions
@@ -26,13 +26,13 @@ module _ {X : Type 0} where
       ∙ (ap (λ item. item ∷ zipped ys (map (λ position. get_or vs position false) positions)) (sym here)
       ∙ ap (λ items. get_or (zipped xs vs) position None ∷ items) (taken-zipped xs vs positions ys e (All-tail (λ position. position < length xs) position positions inside) stand.1))
 
-  -- whatever stands for what is past the end
+  -- inside the list the default of `get_or` does not matter
   pub any-default : (xs : List X) (k : ℕ) (d e : X) → k < length xs → get_or xs k d ≡ get_or xs k e
   any-default [] k d e h = absurd (omega (arith, h))
   any-default (x ∷ xs) zero d e h = refl
   any-default (x ∷ xs) (suc k) d e h = any-default xs k d e (omega (arith, h))
 
-  -- what is read at indices stands there
+  -- the values read at indices are the items there
   pub stand-there : (xs : List X) (d : X) (positions : List ℕ) → All (λ position. position < length xs) positions → AllZip (IsItemAt xs) positions (map (λ position. get_or xs position d) positions)
   stand-there xs d [] inside = tt
   stand-there xs d (position ∷ positions) inside =
@@ -53,7 +53,7 @@ taken-true n (position ∷ positions) inside =
     ap (λ b. b ∷ map (λ position. get_or (replicate n true) position false) positions) (get_or-replicate n position true false (All-head (λ position. position < n) position positions inside))
     ∙ ap (λ l. true ∷ l) (taken-true n positions (All-tail (λ position. position < n) position positions inside))
 
--- what is so of the item at each index, as a list
+-- the results of a test on the item at each index, as a list
 pub stated-each : {I X : Type 0} (f : I → X) (test : X → Bool) (indices : List I) (d : I) (n : ℕ) → n ≡ length indices → map (λ k. test (f (get_or indices k d))) (range_with_len 0 n) ≡ map test (map f indices)
 stated-each f test indices d n e =
     let m = length-map indices f in
@@ -64,7 +64,7 @@ stated-each f test indices d n e =
     get_or-map-range_with_len stated 0 n k k false less (omega arith)
     ∙ (ap test (sym (get_or-map f indices k d (f d) (omega (arith, less, e)))) ∙ sym (get_or-map test (map f indices) k (f d) false (omega (arith, less, e, m)))))
 
--- slots, none of which is null, from the items that they are
+-- the values of slots that are not null, from the items
 pub known-slots : {X : Type 0} (xs ys : List X) (vs : List Bool) → length vs ≡ length xs → zipped xs vs ≡ map (λ y. Some y) ys → xs ≡ ys
 known-slots [] [] vs e is = refl
 known-slots [] (y ∷ ys) vs e is = let never = is in cc

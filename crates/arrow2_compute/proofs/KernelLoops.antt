@@ -1,4 +1,4 @@
--- Loops of kernels: what is there so far, and that it is no more than there is in all.
+-- Loops of kernels: the items so far, and that their number is at most that of all items.
 use Rattle.std.proofs.Common.{◌≡◌, ℕ, zero, suc, ◌+◌, ◌<◌, ◌≤◌, List, [], ◌∷◌, ◌++◌, Bool, length, take, get_or, refl, ap, sym, ◌∙◌, append_assoc, arith, add-one, inl, inr, rules}
 use Rattle.std.specs.Prelude.{◌^◌, ◌↔◌, ◌⊎◌, Result, Ok, Err, IfErr, IsErrOf}
 use Rattle.std.specs.List.{flat_map}
@@ -11,7 +11,7 @@ use Rattle.arrow2_model.proofs.Parts.{length-part}
 use Rattle.arrow2_walks.specs.Selections.{choice}
 
 module _ {X Y : Type 0} (f : Y → List X) where
-  -- what is kept and what comes of the next item are no more than what comes of all
+  -- the kept items and those of the next part, by number: at most all items
   pub kept-fits : (kept whole : List X) (left rest : List Y) (y : Y) → left ≡ y ∷ rest → kept ++ flat_map f left ≡ whole → length kept + length (f y) ≤ length whole
   kept-fits kept whole left rest y first done =
       let l = length-append kept (flat_map f left) in
@@ -24,11 +24,11 @@ module _ {X Y : Type 0} (f : Y → List X) where
   flat_map-next (y ∷ ys) zero d h = append-nil (f y)
   flat_map-next (y ∷ ys) (suc k) d h = ap (λ l. f y ++ l) (flat_map-next ys k d (omega (arith, h))) ∙ sym (append_assoc (f y) (flat_map f (take k ys)) (f (get_or ys k d)))
 
-  -- what comes of one item more
+  -- the items of one part more
   pub flat_map-more : (ys : List Y) (k : ℕ) (d : Y) → k < length ys → flat_map f (take (k + 1) ys) ≡ flat_map f (take k ys) ++ f (get_or ys k d)
   flat_map-more ys k d h = rw add-one (flat_map-next ys k d h)
 
-  -- what comes of first items is no more than what comes of all
+  -- the items of the first parts, by number: at most those of all parts
   pub length-first : (ys : List Y) (k : ℕ) → length (flat_map f (take k ys)) ≤ length (flat_map f ys)
   length-first [] zero = omega arith
   length-first [] (suc k) = omega arith

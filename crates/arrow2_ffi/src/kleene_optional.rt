@@ -100,8 +100,8 @@ pub extern "C" fn arrow2_or_kleene_optional(
     write::<OR_VALUES, OR_KNOWN, OR_KNOWN_PAIRED>(left, right, length, values, validity)
 }
 
-/// Writes the values by table `VALUES` of two inputs, and the validity as `write_known` does, which states what is
-/// required of the tables.
+/// Writes the values by table `VALUES` of two inputs, and the validity as `write_known` does. `write_known` states the
+/// conditions on the tables.
 fn write<const VALUES: u8, const KNOWN: u16, const PAIRED: u8>(
     left: Side<'_>,
     right: Side<'_>,

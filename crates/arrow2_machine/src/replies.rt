@@ -134,7 +134,7 @@ fn write_listed(number: usize, first: bool, out: &mut Vec<u8>) -> Result<(), All
 }
 
 /// Appends each word of a list of items as a decimal number. Bits of the last word past the items are 0. Requires that
-/// `number` may be called with each word and returns its value.
+/// `number` may be called with any word, and returns the value of the word.
 pub(crate) fn write_words<T: BitChunk, F: Fn(T) -> usize>(
     chunks: BitChunks<'_, T>,
     number: F,

@@ -1,4 +1,4 @@
--- What is kept of a list, item by item; and that it is the least or the greatest.
+-- The result of a function that picks one of two items, over a list: the least or the greatest item.
 use Rattle.std.proofs.Common.{◌≡◌, List, [], ◌∷◌, ◌++◌, Bool, true, false, refl, ap, sym, subst, ◌∙◌, append_assoc, inl, inr, All}
 use Rattle.std.specs.Prelude.{◌⊎◌, Option, Some, None, Contains, IsTrue, MatchOption}
 use Rattle.std.specs.Option.{option_map, option_map_or}
@@ -33,7 +33,7 @@ pub ruleset best = (best-append)
 
 module _ {X : Type 0} (R : X → X → Type 0) (itself : (x : X) → R x x) (chain : (x y z : X) → R x y → R y z → R x z) (f : X → X → X)
     (picks : (x y : X) → ((f x y ≡ x) × R x y) ⊎ ((f x y ≡ y) × R y x)) where
-  -- one of the list, to which each of it compares so; and none where there is none
+  -- an item of the list that is in relation R to each item; none if the list is empty
   abbrev IsBest : List X → Option X → Type 0
   IsBest xs best = MatchOption best (xs ≡ []) (λ x. Contains xs x × All (R x) xs)
 
@@ -48,7 +48,7 @@ module _ {X : Type 0} (R : X → X → Type 0) (itself : (x : X) → R x x) (cha
   more xs [] best h = subst (λ (l : List X). IsBest l best) (sym (append-nil xs)) h
   more xs (y ∷ ys) best h = subst (λ (l : List X). IsBest l (best_from f best (y ∷ ys))) (append_assoc xs (y ∷ []) ys) (more (xs ++ y ∷ []) ys (Some (option_map_or (λ other. f other y) best y)) (one-more xs best y h))
 
-  -- what is kept of a list
+  -- the result over a list is such an item
   pub best-of_all : (xs : List X) (best : Option X) → best ≡ best_from f None xs → IsBest xs best
   best-of_all xs best is = subst (λ (o : Option X). IsBest xs o) (sym is) (more [] xs None refl)
 

@@ -57,7 +57,7 @@ same-numbers value other fits (None ∷ xs) (y ∷ ys) all h = (h.0, same-number
 same-numbers value other fits (Some x ∷ xs) (None ∷ ys) all h = absurd (h.0 (All-head (Fits value fits) (Some x) xs all))
 same-numbers value other fits (Some x ∷ xs) (Some y ∷ ys) all h = (h.0.1, same-numbers value other fits xs ys (All-tail (Fits value fits) (Some x) xs all) h.1)
 
--- what is so of a value, or of an error, that something else is so of
+-- a property of a value, or of an error, from another property that implies it
 pub if-ok : {V E : Type 0} {P Q : V → Type 0} (r : Result V E) → ((v : V) → P v → Q v) → IfOk r P → IfOk r Q
 if-ok (Ok v) gives p = gives v p
 if-ok (Err e) gives p = tt

@@ -1,4 +1,4 @@
--- What is made of two arrays index by index, with what is valid in both.
+-- Results of two arrays, index by index, with the validity of both.
 use Rattle.std.proofs.Common.{◌≡◌, ℕ, ◌<◌, List, [], ◌∷◌, Bool, true, false, length, get_or, refl, ap, sym, ◌∙◌, arith}
 use Rattle.std.specs.Prelude.{◌&&◌, Some, None}
 use Rattle.std.specs.Simd.Lanes.{zip2}

@@ -43,7 +43,7 @@ module _ {X : Type 0} where
   selected-zipped (x ∷ xs) (v ∷ vs) (true ∷ ms) e = ap (λ l. slot x v ∷ l) (selected-zipped xs vs ms (omega (arith, e)))
   selected-zipped (x ∷ xs) (v ∷ vs) (false ∷ ms) e = selected-zipped xs vs ms (omega (arith, e))
 
-  -- of a mask of which the first n items count
+  -- of the first n items of a mask, followed by false
   selected-masked : (xs : List X) (ms : List Bool) (n k : ℕ) → selection xs (take n ms ++ replicate k false) ≡ selection (take n xs) (take n ms)
   selected-masked [] ms zero k = refl
   selected-masked [] ms (suc n) k = refl
@@ -146,7 +146,7 @@ module _ {X : Type 0} where
       ∙ (ap (λ l. kept ++ l) (selected-masked block m n (64 - n))
       ∙ (ap (λ l. kept ++ selection l (take n m)) is-xs ∙ (ap (λ l. kept ++ selection xs l) is-ms ∙ done))))
 
-  -- what is kept and what the next word selects are no more than all
+  -- the kept items and those that the next word selects, by number: at most all selected items
   pub word-fits : (kept xs block others : List X) (ms m ns : List Bool) (all : List X) → xs ≡ block ++ others → ms ≡ m ++ ns → length block ≡ length m
       → kept ++ selection xs ms ≡ all → length kept + length (selection block m) ≤ length all
   word-fits kept xs block others ms m ns all is-xs is-ms size done =
@@ -162,7 +162,7 @@ module _ {X : Type 0} where
       let l = length-append kept (selection block last) in
       omega (arith, l, ap length e)
 
--- what is selected of true items
+-- a selection of true items is true everywhere
 pub selected-true : (n : ℕ) (ms : List Bool) → selection (replicate n true) ms ≡ replicate (length (selection (replicate n true) ms)) true
 selected-true zero ms = refl
 selected-true (suc n) [] = refl

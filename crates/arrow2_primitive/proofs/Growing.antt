@@ -16,7 +16,7 @@ use Rattle.arrow2_validity.specs.OptionalValidity.{items_or_true}
 use Rattle.arrow2_validity.proofs.Slots.{arrays, zipped-true}
 
 module _ {X : Type 0} where
-  -- values after others, none of which is null
+  -- values that are not null after others
   pub append-true : (xs ys : List X) (vs : List Bool) → length vs ≡ length xs → zipped (xs ++ ys) (vs ++ replicate (length ys) true) ≡ zipped xs vs ++ map (λ x. Some x) ys
   append-true xs ys vs e = append-zipped xs ys vs (replicate (length ys) true) e ∙ ap (λ l. zipped xs vs ++ l) (zipped-true ys)
 

@@ -11,7 +11,7 @@ use arrow2_validity::fmt::write_separator;
 use std::fmt;
 
 /// Writes the logical type, then the items in brackets, with `None` for a null: `Int32[1, None, -3]`. No clause states
-/// what formatter flags do, nor what is written for an extension or a type with a time zone.
+/// the effect of formatter flags, nor the text of an extension or of a type with a time zone.
 ///
 /// Differs from arrow2, which prints dates, times, durations and decimals by their logical type: here each value is
 /// printed by its own `Debug`.

@@ -68,7 +68,7 @@ command_of-words (Kernel command) fits = kernel_of-words command fits
 command_of-words (Growth command) fits = growth_of-words command fits
 command_of-words (Array command) fits = array_of-words command fits
 
--- parts one of which is blank spell no command
+-- parts spell no command if one of them is blank
 blank_states_none : (parts : List (List ℕ)) → list_any is_blank parts ≡ true → command_of parts ≡ None
 blank_states_none parts blank = elim (some_or_none (command_of parts)) [
   | inl p ↦

@@ -56,7 +56,7 @@ impl<T: Drop> From<AllocFailed<T>> for ReplayFault {
 }
 
 /// Returns the exit status of a program after a replay. Prints a fault to standard error, as one line, and ignores an
-/// error of that print. No clause states what is printed: tests show it.
+/// error of that print. No clause states the printed text: tests show it.
 pub fn exit_code<R: Eprint>(rt: &R, outcome: Result<(), ReplayFault>) -> ExitCode
     ensures { MatchResult outcome (λ _. result ≡ ExitCode.SUCCESS) (λ _. result ≡ ExitCode.FAILURE) }
 {

@@ -81,7 +81,7 @@ all-taken f xs i end e = e ∙ ap (map f) (take_all i xs end)
 pub measured-all : {X : Type 0} (measure : List X → ℕ) (xs : List X) (i : ℕ) {n : ℕ} → length xs ≤ i → n ≡ measure (take i xs) → n ≡ measure xs
 measured-all measure xs i end e = e ∙ ap measure (take_all i xs end)
 
--- what is known of an array that was made
+-- facts about an array that was made
 pub made-items : (r : Result BinaryParts Error) {items all : List (Option (List ℕ))} → IfOk r (λ a. binary_items a ≡ items) → items ≡ all → IfOk r (λ a. binary_items a ≡ all)
 made-items (Ok a) h e = h ∙ e
 made-items (Err x) h e = tt
@@ -99,7 +99,7 @@ pub no-overflow : {U : Type 0} (r : Result U Error) → IfErr r (λ e. e ≡ Out
 no-overflow (Ok u) only is = cc
 no-overflow (Err x) only is = cc
 
--- what is returned is no error
+-- a returned value is no error
 pub not-failed : {U : Type 0} (u : U) (e : Error) → Ok u ≡ Err e → ⊥
 not-failed u e is = cc
 

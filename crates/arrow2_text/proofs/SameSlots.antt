@@ -89,7 +89,7 @@ module _ {X : Type 0} where
     λ e. sym (whole-cut xs ns) ∙ (ap (λ l. cut l ns) e.1 ∙ (ap (cut (take (sum ms) ys)) e.0 ∙ whole-cut ys ms)),
   )
 
-  -- parts of what is cut, by their lengths and all their items
+  -- parts of two lists that are cut, by their lengths and all their items
   pub values-alike : (xs ys : List X) (first second : ℕ) (ns ms : List ℕ) (a n : ℕ) → length (part xs (first + sum (take a ns)) (sum (part ns a n))) ≡ sum (part ns a n) → length (part ys (second + sum (take a ms)) (sum (part ms a n))) ≡ sum (part ms a n)
       → (part (cut (drop first xs) ns) a n ≡ part (cut (drop second ys) ms) a n) ↔ ((part ns a n ≡ part ms a n) × (part xs (first + sum (take a ns)) (sum (part ns a n)) ≡ part ys (second + sum (take a ms)) (sum (part ms a n))))
   values-alike xs ys first second ns ms a n h i =

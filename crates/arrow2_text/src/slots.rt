@@ -360,7 +360,8 @@ fn thaw<O: Offset>(
     }
 }
 
-/// Shares all parts. Does not allocate. It fails only if the reference count of an `Rc` would overflow.
+/// Shares all parts. Does not allocate. It fails only if the reference count of an `Rc` would overflow. No clause states
+/// when it fails.
 impl<O: Offset> Clone for Slots<O> {
     ghost is_clone = { λ a copy. copy ≡ a };
 

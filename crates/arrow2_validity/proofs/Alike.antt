@@ -47,7 +47,7 @@ module _ {X : Type 0} (E : X → X → Bool) where
     pub lists_Decides : (xs ys : List (Option X)) (r : Bool) → r ≡ pointwise (option_eq E) xs ys → Decides r (xs ≡ ys)
     lists_Decides xs ys r e = slice_eq-Decides options_Decides xs ys r e
 
--- std's `eq` of two iterators, of which xs and ys are equal item by item and the next results end the comparison
+-- std's `eq` of two iterators: their first items xs and ys are equal, and their next results end the comparison
 module _ {S T X : Type 0} (ours : S → List X) (theirs : T → List X) (E : X → X → Bool) where
   pub eq-compares : (xs ys : List X) (s u : S) (t v : T) (o p : Option X) (r : Bool) → YieldsThen (YieldsFirst ours) s xs o u → YieldsThen (YieldsFirst theirs) t ys p v → AllZip (λ x y. E x y ≡ true) xs ys
       → MatchOption o (MatchOption p (r ≡ true) (λ _. r ≡ false)) (λ x. (r ≡ false) × IfSome p (λ y. E x y ≡ false)) → r ≡ pointwise E (ours s) (theirs t)

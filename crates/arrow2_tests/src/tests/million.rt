@@ -13,7 +13,7 @@ use std::process::Abort;
 /// Returns the number of items.
 const MILLION: usize = 1_000_000;
 
-/// The call made a million items, `falses` of which are false.
+/// Requires that the call made a million items, and that `falses` of them are false.
 fn counts(rt: &impl Abort, made: Result<Bitmap>, falses: usize) {
     let bitmap = ok(rt, made);
     assert_that(rt, bitmap.len() == MILLION);
@@ -40,7 +40,7 @@ fn add(x: u64, y: u64) -> u64 {
     x ^ y
 }
 
-/// A million false items of which bitmaps are packed.
+/// Packs a million false items into bitmaps, in each way.
 fn is_packed(rt: &impl Abort, alloc: Global) {
     let list = ok(rt, vec![in alloc; false; MILLION]);
     counts(rt, Bitmap::from_bools(alloc, list.as_slice()), MILLION);

@@ -4,7 +4,7 @@ use Rattle.std.specs.Fmt.{IsFlush, HasWrittenStyled}
 use Rattle.arrow2_model.proofs.Shown.{shown_front}
 use Rattle.arrow2_bits.proofs.fmt.fmt.Given as goal
 
--- the first j bytes are written, each of which holds a shown bit, and the other bits are left from the next byte's bit
+-- the first j bytes are written, and each of them holds a shown bit; the other bits are left from the next byte's bit
 -- `start` on
 pub record IsFront {W : Type 0} (took : W → List ℕ → W → Type 0) (bytes : List ℕ) (offset len : ℕ) (old new : Formatter W) (j start left : ℕ) : Type 0 where
   pub position : start ≡ offset - 8 * j

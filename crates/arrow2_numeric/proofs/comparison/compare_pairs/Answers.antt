@@ -11,7 +11,7 @@ use Rattle.arrow2_walks.specs.Zipped.{zipped}
 use Rattle.arrow2_numeric.proofs.Pairs.{both-zipped, each-and, tested-pairs}
 use Rattle.arrow2_numeric.proofs.comparison.compare_pairs.Goals as goal
 
--- what was returned for the values, with what is valid in both
+-- the results for the values, with the validity of both
 pub returns-clause-items : goal.returns-clause-items
 returns-clause-items g c outcome stated =
     let xs = buffer_items c.args.lhs.now.values in
