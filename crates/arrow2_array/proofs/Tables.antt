@@ -7,9 +7,7 @@ use Rattle.arrow2_model.specs.Tables.{answer, each}
 use Rattle.arrow2_walks.specs.Zipped.{slot, zipped}
 use Rattle.arrow2_model.proofs.Kernels.{length-each, get_or-each, each_from}
 use Rattle.arrow2_walks.proofs.Zipped.{length-zipped, at-zipped}
-use Rattle.arrow2_array.specs.Kleene.{kleene_and, kleene_or, by_items, TablesCompute, kleene, values_table, known_table, paired_table}
-use Rattle.arrow2_array.specs.declared.kleene.Operator.{Operator}
-use Rattle.arrow2_array.specs.declared.kleene.Operator.TheVariants.{And, Or}
+use Rattle.arrow2_array.specs.Kleene.{AgreesWhereOneIsValid, NullableOperator, TablesCompute, by_items, kleene_and, kleene_or}
 
 -- ---- functions of up to four booleans, which are equal where all their values are
 
@@ -41,31 +39,21 @@ module _ {X : Type 0} where
 
 -- ---- one item
 
-pub and_known : (a b : Bool) → answer 53060 (a ∷ true ∷ b ∷ true ∷ []) ≡ true
+pub and_paired_table : AgreesWhereOneIsValid 207 53060
 unfolding bit
-and_known = same2 (λ a b. answer 53060 (a ∷ true ∷ b ∷ true ∷ [])) (λ a b. true) refl
+and_paired_table = record {
+  second = same3 (λ a n b. answer 207 (a ∷ n ∷ b ∷ [])) (λ a n b. answer 53060 (a ∷ n ∷ b ∷ true ∷ [])) refl;
+  first = same3 (λ a b m. answer 207 (b ∷ m ∷ a ∷ [])) (λ a b m. answer 53060 (a ∷ true ∷ b ∷ m ∷ [])) refl;
+  both = same2 (λ a b. answer 53060 (a ∷ true ∷ b ∷ true ∷ [])) (λ a b. true) refl;
+}
 
-pub or_known : (a b : Bool) → answer 64648 (a ∷ true ∷ b ∷ true ∷ []) ≡ true
+pub or_paired_table : AgreesWhereOneIsValid 252 64648
 unfolding bit
-or_known = same2 (λ a b. answer 64648 (a ∷ true ∷ b ∷ true ∷ [])) (λ a b. true) refl
-
--- with an item that is not null, which comes second or first
-
-pub and_paired : (a n b : Bool) → answer 207 (a ∷ n ∷ b ∷ []) ≡ answer 53060 (a ∷ n ∷ b ∷ true ∷ [])
-unfolding bit
-and_paired = same3 (λ a n b. answer 207 (a ∷ n ∷ b ∷ [])) (λ a n b. answer 53060 (a ∷ n ∷ b ∷ true ∷ [])) refl
-
-pub and_following : (a b m : Bool) → answer 207 (b ∷ m ∷ a ∷ []) ≡ answer 53060 (a ∷ true ∷ b ∷ m ∷ [])
-unfolding bit
-and_following = same3 (λ a b m. answer 207 (b ∷ m ∷ a ∷ [])) (λ a b m. answer 53060 (a ∷ true ∷ b ∷ m ∷ [])) refl
-
-pub or_paired : (a n b : Bool) → answer 252 (a ∷ n ∷ b ∷ []) ≡ answer 64648 (a ∷ n ∷ b ∷ true ∷ [])
-unfolding bit
-or_paired = same3 (λ a n b. answer 252 (a ∷ n ∷ b ∷ [])) (λ a n b. answer 64648 (a ∷ n ∷ b ∷ true ∷ [])) refl
-
-pub or_following : (a b m : Bool) → answer 252 (b ∷ m ∷ a ∷ []) ≡ answer 64648 (a ∷ true ∷ b ∷ m ∷ [])
-unfolding bit
-or_following = same3 (λ a b m. answer 252 (b ∷ m ∷ a ∷ [])) (λ a b m. answer 64648 (a ∷ true ∷ b ∷ m ∷ [])) refl
+or_paired_table = record {
+  second = same3 (λ a n b. answer 252 (a ∷ n ∷ b ∷ [])) (λ a n b. answer 64648 (a ∷ n ∷ b ∷ true ∷ [])) refl;
+  first = same3 (λ a b m. answer 252 (b ∷ m ∷ a ∷ [])) (λ a b m. answer 64648 (a ∷ true ∷ b ∷ m ∷ [])) refl;
+  both = same2 (λ a b. answer 64648 (a ∷ true ∷ b ∷ true ∷ [])) (λ a b. true) refl;
+}
 
 pub and_spelled : TablesCompute 8 53060 kleene_and
 unfolding bit
@@ -74,24 +62,6 @@ and_spelled = same4 (λ a n b m. slot (answer 8 (a ∷ b ∷ [])) (answer 53060 
 pub or_spelled : TablesCompute 14 64648 kleene_or
 unfolding bit
 or_spelled = same4 (λ a n b m. slot (answer 14 (a ∷ b ∷ [])) (answer 64648 (a ∷ n ∷ b ∷ m ∷ []))) (λ a n b m. kleene_or (slot a n) (slot b m)) refl refl
-
--- ---- an operator's tables
-
-pub spelled : (o : Operator) → TablesCompute (values_table o) (known_table o) (kleene o)
-spelled And = and_spelled
-spelled Or = or_spelled
-
-pub known : (o : Operator) (a b : Bool) → answer (known_table o) (a ∷ true ∷ b ∷ true ∷ []) ≡ true
-known And = and_known
-known Or = or_known
-
-pub paired : (o : Operator) (a n b : Bool) → answer (paired_table o) (a ∷ n ∷ b ∷ []) ≡ answer (known_table o) (a ∷ n ∷ b ∷ true ∷ [])
-paired And = and_paired
-paired Or = or_paired
-
-pub following : (o : Operator) (a b m : Bool) → answer (paired_table o) (b ∷ m ∷ a ∷ []) ≡ answer (known_table o) (a ∷ true ∷ b ∷ m ∷ [])
-following And = and_following
-following Or = or_following
 
 -- ---- item by item
 
@@ -126,18 +96,18 @@ paired_left t u xs ns ys ms following e is =
     let set : get_or (replicate (length xs) true) k false ≡ true = get_or-replicate (length xs) k true false k< in
     get_or-each u (ys ∷ ms ∷ xs ∷ []) k (omega (arith, e)) ∙ rw (is, set) (following (get_or xs k false) (get_or ys k false) (get_or ms k false)))
 
-length-by_items : (f : Option Bool → Option Bool → Option Bool) (xs ys : List (Option Bool)) → length xs ≡ length ys → length (by_items f xs ys) ≡ length xs
+length-by_items : (f : NullableOperator) (xs ys : List (Option Bool)) → length xs ≡ length ys → length (by_items f xs ys) ≡ length xs
 length-by_items f [] ys e = refl
 length-by_items f (x ∷ xs) [] e = absurd (omega (arith, e))
 length-by_items f (x ∷ xs) (y ∷ ys) e = ap suc (length-by_items f xs ys (omega (arith, e)))
 
-get_or-by_items : (f : Option Bool → Option Bool → Option Bool) (xs ys : List (Option Bool)) (k : ℕ) → length xs ≡ length ys → k < length xs → get_or (by_items f xs ys) k None ≡ f (get_or xs k None) (get_or ys k None)
+get_or-by_items : (f : NullableOperator) (xs ys : List (Option Bool)) (k : ℕ) → length xs ≡ length ys → k < length xs → get_or (by_items f xs ys) k None ≡ f (get_or xs k None) (get_or ys k None)
 get_or-by_items f [] ys k e h = absurd (omega (arith, h))
 get_or-by_items f (x ∷ xs) [] k e h = absurd (omega (arith, e))
 get_or-by_items f (x ∷ xs) (y ∷ ys) zero e h = refl
 get_or-by_items f (x ∷ xs) (y ∷ ys) (suc k) e h = get_or-by_items f xs ys k (omega (arith, e)) (omega (arith, h))
 
-pub by_tables : (v t : ℕ) (f : Option Bool → Option Bool → Option Bool) (xs ns ys ms : List Bool) → TablesCompute v t f → length ns ≡ length xs → length ys ≡ length xs → length ms ≡ length xs
+pub by_tables : (v t : ℕ) (f : NullableOperator) (xs ns ys ms : List Bool) → TablesCompute v t f → length ns ≡ length xs → length ys ≡ length xs → length ms ≡ length xs
     → zipped (each v (xs ∷ ys ∷ [])) (each t (xs ∷ ns ∷ ys ∷ ms ∷ [])) ≡ by_items f (zipped xs ns) (zipped ys ms)
 by_tables v t f xs ns ys ms spelled n y m =
     let values : List Bool = each v (xs ∷ ys ∷ []) in

@@ -15,10 +15,12 @@ ghost use Rattle.arrow2_types.specs.Failures.{FailsOnlyWith};
 ghost use Rattle.arrow2_validity.specs.OptionalValidity.{valid_items};
 ghost use Rattle.arrow2_validity.specs.Failures.{unequal_lengths_message};
 ghost use Rattle.arrow2_array.specs.Items.{boolean_items, sliced_boolean, nulls};
-ghost use Rattle.arrow2_array.specs.Kleene.{by_items, kleene, kleene_and, kleene_or, known_table, values_table};
+ghost use Rattle.arrow2_array.specs.Kleene.{AgreesWhereOneIsValid, NullableOperator, TablesCompute, by_items, kleene_and, kleene_or};
 
 use crate::iterator::BooleanIter;
-use crate::kleene::{Operator, validity_by};
+use crate::kleene::{
+    AND_KNOWN, AND_KNOWN_PAIRED, AND_VALUES, OR_KNOWN, OR_KNOWN_PAIRED, OR_VALUES, validity_by,
+};
 use crate::mutable::MutableBooleanArray;
 use arrow2_bitmap::Bitmap;
 use arrow2_bitmap::bitmap_ops::binary_table;
@@ -320,7 +322,7 @@ impl BooleanArray {
         ensures packed { IfOk result (λ a. IfSome a.validity.bitmap (λ v. IsPacked v)) }
         ensures only { IfErr result (λ e. e ≡ Error.OutOfMemory) }
     {
-        self.by_operator(Operator::And, other)
+        self.by_tables::<AND_VALUES, AND_KNOWN, AND_KNOWN_PAIRED>(other)
     }
 
     /// Returns, item by item, whether at least one item is true, by Kleene's logic: true if either item is true, else
@@ -353,22 +355,28 @@ impl BooleanArray {
         ensures packed { IfOk result (λ a. IfSome a.validity.bitmap (λ v. IsPacked v)) }
         ensures only { IfErr result (λ e. e ≡ Error.OutOfMemory) }
     {
-        self.by_operator(Operator::Or, other)
+        self.by_tables::<OR_VALUES, OR_KNOWN, OR_KNOWN_PAIRED>(other)
     }
 
-    /// Returns, item by item, the result of the operator for the items of both arrays. Uses the truth tables of the
-    /// operator. Requires that both arrays have equal lengths.
-    fn by_operator(&self, operator: Operator, other: &BooleanArray) -> Result<BooleanArray>
+    /// Returns, item by item, the result of an operator for the items of both arrays. Table `VALUES` of both values gives
+    /// its values; `KNOWN` and `PAIRED` give its validity, as in `validity_by`. Requires that both arrays have equal
+    /// lengths, and that `PAIRED` agrees with `KNOWN`.
+    fn by_tables<const VALUES: u8, const KNOWN: u16, const PAIRED: u8>(
+        &self,
+        other: &BooleanArray,
+    ) -> Result<BooleanArray>
         requires same_length { length (boolean_items self.now) ≡ length (boolean_items other.now) }
-        // The result, item by item.
-        ensures items { IfOk result (λ a. boolean_items a
-            ≡ by_items (kleene operator) (boolean_items self.now) (boolean_items other.now)) }
+        requires paired { AgreesWhereOneIsValid PAIRED KNOWN }
+        // The result, item by item, for every operator `f` that the tables compute.
+        ensures items { (f : NullableOperator) → TablesCompute VALUES KNOWN f →
+            IfOk result (λ a. boolean_items a
+            ≡ by_items f (boolean_items self.now) (boolean_items other.now)) }
         ensures len { IfOk result (λ a. length (boolean_items a) ≡ length (boolean_items self.now)) }
         // Its two parts: the values, also under nulls, and the validity.
         ensures values { IfOk result (λ a. items_of a.values
-            ≡ each (values_table operator) (items_of self.now.values ∷ items_of other.now.values ∷ [])) }
+            ≡ each VALUES (items_of self.now.values ∷ items_of other.now.values ∷ [])) }
         ensures validity { IfOk result (λ a. valid_items a.validity
-            ≡ each (known_table operator) (items_of self.now.values ∷ valid_items self.now.validity
+            ≡ each KNOWN (items_of self.now.values ∷ valid_items self.now.validity
             ∷ items_of other.now.values ∷ valid_items other.now.validity ∷ [])) }
         // It has no bitmap exactly where neither array has one.
         ensures bitmap { IfOk result (λ a. IsNone a.validity.bitmap
@@ -379,9 +387,8 @@ impl BooleanArray {
         ensures packed { IfOk result (λ a. IfSome a.validity.bitmap (λ v. IsPacked v)) }
         ensures only { IfErr result (λ e. e ≡ Error.OutOfMemory) }
     {
-        let values = binary_table(&self.values, &other.values, operator.values())?;
-        let validity = validity_by(
-            operator,
+        let values = binary_table(&self.values, &other.values, VALUES)?;
+        let validity = validity_by::<KNOWN, PAIRED>(
             &self.values,
             &self.validity,
             &other.values,

@@ -1,14 +1,16 @@
 //! Truth tables of Kleene's `and` and `or`. For each operator, one table gives the value of the result, and two others
 //! give whether the result is not null.
-ghost use Rattle.std.specs.Prelude.{◌≡◌, ◌↔◌, [], ◌∷◌, length, Some, IsNone, IfOk, IfErr, IfSome};
+ghost use Rattle.std.specs.Prelude.{◌≡◌, ◌<◌, ◌↔◌, ℕ, [], ◌∷◌, length, Some, IsNone, IfOk, IfErr, IfSome};
+ghost use Rattle.arrow2_model.specs.Bits.{bit};
 ghost use Rattle.arrow2_model.specs.Storage.{items_of};
-ghost use Rattle.arrow2_model.specs.Tables.{each};
+ghost use Rattle.arrow2_model.specs.Tables.{answer, each};
 ghost use Rattle.arrow2_validity.specs.OptionalValidity.{valid_items};
-ghost use Rattle.arrow2_array.specs.Kleene.{paired_table, known_table, values_table};
+ghost use Rattle.arrow2_array.specs.Kleene.{AgreesWhereOneIsValid};
 ghost use Rattle.arrow2_bitmap.specs.PackedBitmaps.{IsPacked};
 
 use arrow2_bitmap::Bitmap;
-use arrow2_tables::bitmap_ops::{quaternary_table, ternary_table};
+use arrow2_kernels::truth_tables::{quaternary_outputs, ternary_outputs};
+use arrow2_tables::bitmap_ops::{quaternary, ternary};
 use arrow2_types::{Error, Result};
 use arrow2_validity::Validity;
 
@@ -38,64 +40,26 @@ pub const AND_KNOWN_PAIRED: u8 = 0b1100_1111;
 /// of [`AND_KNOWN_PAIRED`].
 pub const OR_KNOWN_PAIRED: u8 = 0b1111_1100;
 
-/// An operator of Kleene's logic.
-#[derive(Clone, Copy)]
-pub(crate) enum Operator {
-    /// Whether both items are true.
-    And,
-    /// Whether at least one item is true.
-    Or,
-}
-
-impl Operator {
-    /// Returns the truth table of the values of the results.
-    pub(crate) fn values(self) -> u8
-        ensures { result ≡ values_table self }
-    {
-        match self {
-            Operator::And => AND_VALUES,
-            Operator::Or => OR_VALUES,
-        }
-    }
-
-    /// Returns the truth table of the validity of the results.
-    fn validity_table(self) -> u16
-        ensures { result ≡ known_table self }
-    {
-        match self {
-            Operator::And => AND_KNOWN,
-            Operator::Or => OR_KNOWN,
-        }
-    }
-
-    /// Returns the truth table of the validity of the results, where one array has no validity bitmap.
-    fn pair_validity_table(self) -> u8
-        ensures { result ≡ paired_table self }
-    {
-        match self {
-            Operator::And => AND_KNOWN_PAIRED,
-            Operator::Or => OR_KNOWN_PAIRED,
-        }
-    }
-}
-
-/// Returns the validity of the results of the operator for the items of two arrays. Where exactly one array has a
-/// validity bitmap, uses `pair_validity_table`. Where neither has one, the returned validity has none. Requires that
-/// both bitmaps and both validities have equal lengths.
-pub(crate) fn validity_by(
-    operator: Operator,
+/// Returns the validity of the results of an operator for the items of two arrays. `KNOWN` is its table of both values and
+/// validities. Where exactly one array has a validity bitmap, uses table `PAIRED`. Where neither has one, the returned
+/// validity has none. Requires that `PAIRED` agrees with `KNOWN`, and that both bitmaps and both validities have equal
+/// lengths.
+///
+/// The tables are const parameters, so that the compiler simplifies each to a few operations on words.
+pub(crate) fn validity_by<const KNOWN: u16, const PAIRED: u8>(
     left: &Bitmap,
     left_validity: &Validity,
     right: &Bitmap,
     right_validity: &Validity,
 ) -> Result<Validity>
+    requires paired { AgreesWhereOneIsValid PAIRED KNOWN }
     // All four have equal lengths.
     requires same_length { length (items_of left.now) ≡ length (items_of right.now) }
     requires left_length { length (valid_items left_validity.now) ≡ length (items_of left.now) }
     requires right_length { length (valid_items right_validity.now) ≡ length (items_of right.now) }
     // Which results are not null.
     ensures items { IfOk result (λ v. valid_items v
-        ≡ each (known_table operator) (items_of left.now ∷ valid_items left_validity.now
+        ≡ each KNOWN (items_of left.now ∷ valid_items left_validity.now
         ∷ items_of right.now ∷ valid_items right_validity.now ∷ [])) }
     ensures len { IfOk result (λ v. length (valid_items v) ≡ length (items_of left.now)) }
     // It has no bitmap exactly where neither input has one.
@@ -105,17 +69,64 @@ pub(crate) fn validity_by(
     // The only error is `OutOfMemory`.
     ensures only { IfErr result (λ e. e ≡ Error.OutOfMemory) }
 {
-    let t = operator.validity_table();
-    let paired = operator.pair_validity_table();
     let len = left.len();
     match (left_validity.bitmap(), right_validity.bitmap()) {
         (None, None) => Ok(Validity::all_valid(len)),
-        (Some(valid), None) => Ok(known_by(len, ternary_table(left, valid, right, paired)?)),
-        (None, Some(valid)) => Ok(known_by(len, ternary_table(right, valid, left, paired)?)),
+        (Some(valid), None) => Ok(known_by(len, ternary_bitmap::<PAIRED>(left, valid, right)?)),
+        (None, Some(valid)) => Ok(known_by(len, ternary_bitmap::<PAIRED>(right, valid, left)?)),
         (Some(valid), Some(other)) => {
-            Ok(known_by(len, quaternary_table(left, valid, right, other, t)?))
+            Ok(known_by(len, quaternary_bitmap::<KNOWN>(left, valid, right, other)?))
         }
     }
+}
+
+/// Returns, item by item, the output of the truth table `T` of three inputs. Requires that all have equal lengths.
+fn ternary_bitmap<const T: u8>(a1: &Bitmap, a2: &Bitmap, a3: &Bitmap) -> Result<Bitmap>
+    requires same_length2 { length (items_of a1.now) ≡ length (items_of a2.now) }
+    requires same_length3 { length (items_of a1.now) ≡ length (items_of a3.now) }
+    ensures items { IfOk result (λ b. items_of b
+        ≡ each T (items_of a1.now ∷ items_of a2.now ∷ items_of a3.now ∷ [])) }
+    ensures len { IfOk result (λ b. length (items_of b) ≡ length (items_of a1.now)) }
+    ensures storage { IfOk result (λ b. IsPacked b) }
+    ensures only { IfErr result (λ e. e ≡ Error.OutOfMemory) }
+{
+    ternary(
+        a1,
+        a2,
+        a3,
+        |x, y, z| -> u64
+            ensures { (i : ℕ) → i < 64 → bit result i
+                ≡ answer T (bit x i ∷ bit y i ∷ bit z i ∷ []) }
+        { ternary_outputs(u16::from(T), x, y, z) },
+    )
+}
+
+/// Returns, item by item, the output of the truth table `T` of four inputs. Requires that all have equal lengths.
+fn quaternary_bitmap<const T: u16>(
+    a1: &Bitmap,
+    a2: &Bitmap,
+    a3: &Bitmap,
+    a4: &Bitmap,
+) -> Result<Bitmap>
+    requires same_length2 { length (items_of a1.now) ≡ length (items_of a2.now) }
+    requires same_length3 { length (items_of a1.now) ≡ length (items_of a3.now) }
+    requires same_length4 { length (items_of a1.now) ≡ length (items_of a4.now) }
+    ensures items { IfOk result (λ b. items_of b
+        ≡ each T (items_of a1.now ∷ items_of a2.now ∷ items_of a3.now ∷ items_of a4.now ∷ [])) }
+    ensures len { IfOk result (λ b. length (items_of b) ≡ length (items_of a1.now)) }
+    ensures storage { IfOk result (λ b. IsPacked b) }
+    ensures only { IfErr result (λ e. e ≡ Error.OutOfMemory) }
+{
+    quaternary(
+        a1,
+        a2,
+        a3,
+        a4,
+        |x, y, z, v| -> u64
+            ensures { (i : ℕ) → i < 64 → bit result i
+                ≡ answer T (bit x i ∷ bit y i ∷ bit z i ∷ bit v i ∷ []) }
+        { quaternary_outputs(T, x, y, z, v) },
+    )
 }
 
 /// Returns the validity of `len` items whose bitmap is `known`. Requires that the bitmap has `len` items.

@@ -6,17 +6,9 @@ use Rattle.arrow2_model.specs.Bits.{bit}
 use Rattle.arrow2_model.specs.Tables.{answer, each}
 use Rattle.arrow2_model.proofs.Kernels.{each_from}
 use Rattle.arrow2_model.proofs.Cursors.{length-part_bits}
-use Rattle.arrow2_array.proofs.Tables.{and_following, and_paired, and_known, or_following, or_paired, or_known}
 use Rattle.arrow2_ffi.specs.declared.bits_input.Bits.{Bits}
-use Rattle.arrow2_ffi.specs.Kleene.{AgreesWhereOneIsValid}
 use Rattle.arrow2_ffi.specs.Ranges.{first_bits}
 use Rattle.arrow2_ffi.specs.Validities.{CoversItems, items_not_null, validity_bits}
-
-pub and_paired_table : AgreesWhereOneIsValid 207 53060
-and_paired_table = record { second = and_paired; first = and_following; both = and_known }
-
-pub or_paired_table : AgreesWhereOneIsValid 252 64648
-or_paired_table = record { second = or_paired; first = or_following; both = or_known }
 
 pub length-valid_items : (validity : Option Bits) (n : ℕ) → CoversItems (validity_bits validity) n → length (items_not_null (validity_bits validity) n) ≡ n
 length-valid_items None n states = length-replicate n true

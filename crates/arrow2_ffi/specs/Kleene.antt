@@ -1,19 +1,15 @@
 -- Kleene's logic on bits in memory: the code of a call, and the bits that it wrote.
-use Rattle.std.specs.Prelude.{◌≡◌, ℕ, List, [], ◌∷◌, Bool, true, Option, take}
+use Rattle.std.specs.Prelude.{◌≡◌, ℕ, List, [], ◌∷◌, Bool, Option, take}
 use Rattle.arrow2_model.specs.Bits.{bits}
 use Rattle.arrow2_model.specs.Parts.{part}
-use Rattle.arrow2_model.specs.Tables.{answer, each}
+use Rattle.arrow2_model.specs.Tables.{each}
 use Rattle.arrow2_walks.specs.Zipped.{zipped}
-use Rattle.arrow2_array.specs.Kleene.{by_items, kleene_and, kleene_or}
+use Rattle.arrow2_array.specs.Kleene.{NullableOperator, by_items, kleene_and, kleene_or}
 use Rattle.arrow2_ffi.specs.Validities.{CoversItems, given_validity, items_not_null, validity_bits}
 use Rattle.arrow2_ffi.specs.Ranges.{IsInside, HasBytesForBits, AreInside, inputs_of}
 use Rattle.arrow2_ffi.specs.Writes.{Stores, Writes}
 use Rattle.arrow2_ffi.specs.declared.kleene.Nullable.{Nullable}
 use Rattle.arrow2_ffi.specs.declared.kleene_optional.Side.{Side}
-
--- an operator on booleans and nulls
-abbrev pub NullableOperator : Type 0
-NullableOperator = Option Bool → Option Bool → Option Bool
 
 -- values and their validity: for each of the two, the bytes and the first bit
 pub record Input : Type 0 where
@@ -73,16 +69,6 @@ first_parts n left right = first_values n left ∷ first_valid n left ∷ first_
 -- n values of an input are inside their bytes, and its validity, if there is one, has a bit for each
 abbrev pub IsWholeInside : ℕ → OptionalInput → Type 0
 IsWholeInside n x = IsInside x.values.0 x.values.1 n × CoversItems x.validity n
-
--- table `paired` of three inputs has the outputs of table `known` of four where one of the two items is not null. The
--- inputs of `paired` are value and validity of the item that may be null, then the value of the other item
-pub record AgreesWhereOneIsValid (paired known : ℕ) : Type 0 where
-  -- where the second item is not null
-  pub second : (a n b : Bool) → answer paired (a ∷ n ∷ b ∷ []) ≡ answer known (a ∷ n ∷ b ∷ true ∷ [])
-  -- where the first item is not null
-  pub first : (a b m : Bool) → answer paired (b ∷ m ∷ a ∷ []) ≡ answer known (a ∷ true ∷ b ∷ m ∷ [])
-  -- where neither item is null the output of `known` is true
-  pub both : (a b : Bool) → answer known (a ∷ true ∷ b ∷ true ∷ []) ≡ true
 
 -- the results of f for n items of both inputs are stored: their values by table `t` of two inputs, their validity by
 -- table `known` of four

@@ -3,8 +3,8 @@
 //! The values of the result are written over `values` and its validity over `validity`, from bit 0 on. Both slices must
 //! have exactly the number of bytes that hold `length` bits. Their padding bits become 0. Each value of the result is
 //! the operator applied to the two values, also where the result is null.
-ghost use Rattle.arrow2_array.specs.Kleene.{TablesCompute};
-ghost use Rattle.arrow2_ffi.specs.Kleene.{NullableOperator, WritesKleene, WritesKleeneAnd, WritesKleeneOr, input, input_of};
+ghost use Rattle.arrow2_array.specs.Kleene.{NullableOperator, TablesCompute};
+ghost use Rattle.arrow2_ffi.specs.Kleene.{WritesKleene, WritesKleeneAnd, WritesKleeneOr, input, input_of};
 
 use crate::bits_input::{Bits, are_both_inside, hold};
 use crate::codes::{ARROW2_LENGTH, ARROW2_OK, ARROW2_RANGE};

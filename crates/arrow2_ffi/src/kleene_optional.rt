@@ -3,8 +3,8 @@
 //! A validity that is missing needs no bytes.
 ghost use Rattle.std.specs.Prelude.{◌↔◌, IsTrue};
 ghost use Rattle.arrow2_model.specs.Tables.{each};
-ghost use Rattle.arrow2_array.specs.Kleene.{TablesCompute};
-ghost use Rattle.arrow2_ffi.specs.Kleene.{AgreesWhereOneIsValid, IsWholeInside, NullableOperator, WritesOptionalKleene, WritesOptionalKleeneAnd, WritesOptionalKleeneOr, first_parts, optional_input, side_of};
+ghost use Rattle.arrow2_array.specs.Kleene.{AgreesWhereOneIsValid, NullableOperator, TablesCompute};
+ghost use Rattle.arrow2_ffi.specs.Kleene.{IsWholeInside, WritesOptionalKleene, WritesOptionalKleeneAnd, WritesOptionalKleeneOr, first_parts, optional_input, side_of};
 ghost use Rattle.arrow2_ffi.specs.Ranges.{HasBytesForBits};
 ghost use Rattle.arrow2_ffi.specs.Writes.{Stores};
 

@@ -1,6 +1,5 @@
 use Rattle.arrow2_array.specs.Kleene.{kleene_and}
-use Rattle.arrow2_array.proofs.Tables.{and_spelled}
-use Rattle.arrow2_ffi.proofs.OptionalKleene.{and_paired_table}
+use Rattle.arrow2_array.proofs.Tables.{and_paired_table, and_spelled}
 use Rattle.arrow2_ffi.proofs.kleene_optional.arrow2_and_kleene_optional.Goals as goal
 
 pub returns : goal.returns

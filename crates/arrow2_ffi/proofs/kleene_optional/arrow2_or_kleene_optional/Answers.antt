@@ -1,6 +1,5 @@
 use Rattle.arrow2_array.specs.Kleene.{kleene_or}
-use Rattle.arrow2_array.proofs.Tables.{or_spelled}
-use Rattle.arrow2_ffi.proofs.OptionalKleene.{or_paired_table}
+use Rattle.arrow2_array.proofs.Tables.{or_paired_table, or_spelled}
 use Rattle.arrow2_ffi.proofs.kleene_optional.arrow2_or_kleene_optional.Goals as goal
 
 pub returns : goal.returns
