@@ -13,10 +13,10 @@ command_error errors.Overflow = Rejected Overflow
 command_error (errors.InvalidArgumentError t) = Rejected Range
 command_error (errors.OutOfSpec t) = Rejected Range
 command_error errors.OutOfMemory = OutOfMemory
-command_error (errors.NotYetImplemented t) = OutOfMemory
-command_error (errors.External message t) = OutOfMemory
-command_error (errors.Io e) = OutOfMemory
-command_error (errors.ExternalFormat t) = OutOfMemory
+command_error (errors.NotYetImplemented t) = Rejected Range
+command_error (errors.External message t) = Rejected Range
+command_error (errors.Io e) = Rejected Range
+command_error (errors.ExternalFormat t) = Rejected Range
 
 -- the machine returns this error, unless an allocation failed
 abbrev pub Fails : {Y : Type 0} → CommandError → Result Y LineError → Type 0

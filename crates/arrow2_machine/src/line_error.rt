@@ -75,9 +75,8 @@ impl<T: Drop> From<AllocFailed<T>> for CommandError {
     }
 }
 
-/// `Overflow` becomes `LineError::Overflow`. `InvalidArgumentError` and `OutOfSpec` become `LineError::Range`.
-/// `OutOfMemory` stays `OutOfMemory`. The other four become `OutOfMemory` too; in the code no call that a
-/// command makes returns them.
+/// `Overflow` becomes `LineError::Overflow`, `OutOfMemory` stays `OutOfMemory`, and every other error becomes
+/// `LineError::Range`. Of these no call that a command makes returns any but `InvalidArgumentError` and `OutOfSpec`.
 impl From<Error> for CommandError {
     ghost use Rattle.arrow2_machine.specs.Outcomes.{command_error};
 
@@ -86,11 +85,9 @@ impl From<Error> for CommandError {
     fn from(error: Error) -> CommandError {
         match error {
             Error::Overflow => CommandError::Rejected(LineError::Overflow),
-            Error::InvalidArgumentError(_) | Error::OutOfSpec(_) => CommandError::Rejected(
-                LineError::Range,
-            ),
-            // `OutOfMemory`: no call of a command returns another error, and the enum may get more.
-            _ => CommandError::OutOfMemory,
+            Error::OutOfMemory => CommandError::OutOfMemory,
+            // Not `OutOfMemory`, after which nothing is claimed of the reply.
+            _ => CommandError::Rejected(LineError::Range),
         }
     }
 }
