@@ -1,13 +1,8 @@
--- Parts of lists: parts of parts, and their first and last items.
+-- Parts of lists: their first and last items, and rulesets.
 use Rattle.std.proofs.Common.{◌≡◌, ℕ, suc, ◌+◌, ◌-◌, ◌<◌, ◌≤◌, List, [], ◌∷◌, ◌++◌, take, drop, length, get_or, refl, ap, ◌∙◌, arith}
-use Rattle.std.proofs.lemmas.List.{take-take, drop-drop, drop-take, drop_more, take_more, get_or-drop, length-drop}
+use Rattle.std.proofs.lemmas.List.{drop_more, take_more, get_or-drop, length-drop}
 use Rattle.arrow2_model.specs.Parts.{part}
-
--- a part of a part is a part
-pub part-part : {X : Type 0} (items : List X) (a n b m : ℕ) → b + m ≤ n → part (part items a n) b m ≡ part items (a + b) m
-part-part items a n b m h =
-    let e : n ≡ b + (n - b) = omega arith in
-    rw e (rw drop-take (take-take m (n - b) (drop b (drop a items)) (omega arith) ∙ ap (take m) (drop-drop b a items)))
+use Rattle.arrow2_model.proofs.Parts.{part-part}
 
 pub part_none : {X : Type 0} (items : List X) (a n : ℕ) → n ≡ 0 → part items a n ≡ []
 part_none items a n e = rw e refl

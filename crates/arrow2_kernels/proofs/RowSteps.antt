@@ -5,23 +5,27 @@ use Rattle.std.proofs.lemmas.List.{length-append, drop_at, drop-drop, take_all}
 use Rattle.std.proofs.Math.Nat.{mul-suc}
 use Rattle.arrow2_model.specs.Bits.{num, unnum}
 use Rattle.arrow2_model.specs.Words.{full_words, rest, WordCursor, GivesWord}
-use Rattle.arrow2_model.specs.Kernels.{word, AreWords}
+use Rattle.arrow2_model.specs.Kernels.{word, words_at, AreWords}
 use Rattle.arrow2_model.proofs.Bits.{length-unnum}
 use Rattle.arrow2_model.proofs.Numbers.{num-unnum, num-part-lt}
 use Rattle.arrow2_model.proofs.Words.{length-rest, rest-none, rest-whole, length-full_words, get_or-full_words}
-use Rattle.arrow2_model.specs.Rows.{GivesRow}
+use Rattle.arrow2_model.specs.Rows.{AreRowsOf, GivesRow}
 
 -- false after the items changes no number
-num-falses : (items : List Bool) (m : ℕ) → num (items ++ replicate m false) ≡ num items
-num-falses [] zero = refl
-num-falses [] (suc m) = rw (num-falses [] m) refl
-num-falses (true ∷ items) m = rw (num-falses items m) refl
-num-falses (false ∷ items) m = rw (num-falses items m) refl
+pub num-filled : (items : List Bool) (m : ℕ) → num (items ++ replicate m false) ≡ num items
+num-filled [] zero = refl
+num-filled [] (suc m) = rw (num-filled [] m) refl
+num-filled (true ∷ items) m = rw (num-filled items m) refl
+num-filled (false ∷ items) m = rw (num-filled items m) refl
 
 -- one word
 pub one_word : (w x : ℕ) → x < 2 ^ w → AreWords w (x ∷ [])
 one_word w x h zero = h
 one_word w x h (suc k) = pow_pos w
+
+-- the rows of a list itself and of those paired with it
+pub paired_own : (w n : ℕ) (own : List Bool) (lists : List (List Bool)) (row : ℕ → List ℕ) → length own ≡ n → ((j : ℕ) → row j ≡ words_at w lists j) → AreRowsOf w (own ∷ lists) (λ j. word w own j ∷ row j) n
+paired_own w n own lists row l are = (l, λ j. ap (λ r. word w own j ∷ r) (are j))
 
 -- word j of a list after its first word
 word_following : (w x : ℕ) (items left : List Bool) (j : ℕ) → items ≡ unnum w x ++ left → word w left j ≡ word w items (j + 1)
@@ -68,4 +72,4 @@ one_rest w x m len items p short spilled size masked fits =
     let cut : take len (unnum w x) ≡ items = ap (λ n. take n (unnum w x)) size ∙ (spilled ∙ whole) in
     let z : w * 0 ≡ 0 = omega arith in
     let all : take w items ≡ items = take_all w items (omega arith) in
-    sym (num-unnum w m fits) ∙ (ap num (masked ∙ ap (λ (t : List Bool). t ++ replicate (w - len) false) cut) ∙ (num-falses items (w - len) ∙ rw (z, all) refl))
+    sym (num-unnum w m fits) ∙ (ap num (masked ∙ ap (λ (t : List Bool). t ++ replicate (w - len) false) cut) ∙ (num-filled items (w - len) ∙ rw (z, all) refl))

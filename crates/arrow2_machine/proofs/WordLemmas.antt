@@ -6,7 +6,7 @@ use Rattle.std.proofs.Math.Nat.{div-eq_of_lt, mod-eq_of_lt, div-eq-sub-div, mod-
 use Rattle.std.proofs.lemmas.List.{length-drop, drop-drop, drop_at, ext_get_or, nil_from_length, take_all}
 use Rattle.arrow2.specs.Bits.{num, unnum}
 use Rattle.arrow2.specs.Words.{words, full_words}
-use Rattle.arrow2.proofs.Words.{length-unnum, num-unnum, length-words, get_or-words, full_words-cons}
+use Rattle.arrow2.proofs.Words.{length-unnum, num-filled, num-unnum, length-words, get_or-words, full_words-cons}
 use Rattle.arrow2_machine.specs.Replies.{listed_word, words_text}
 use Rattle.arrow2_machine.proofs.WordListLemmas.{led, text-led}
 
@@ -70,16 +70,6 @@ next_word w items left x p split full =
   where
     heads : {a b : ℕ} {s t : List ℕ} → a ∷ s ≡ b ∷ t → a ≡ b
     heads e = cc
-
--- false items after a list don't change its number
-num-falses : (n : ℕ) → num (replicate n false) ≡ 0
-num-falses zero = refl
-num-falses (suc n) = omega (arith, num-falses n)
-
-num-filled : (items : List Bool) (n : ℕ) → num (items ++ replicate n false) ≡ num items
-num-filled [] n = num-falses n
-num-filled (true ∷ items) n = omega (arith, num-filled items n)
-num-filled (false ∷ items) n = omega (arith, num-filled items n)
 
 -- the items after the last full word are one word, filled with false: the word in which they are stored, masked
 pub last_word : (w n last spill : ℕ) (items following : List Bool) → 0 < n → n < w → n ≡ length following → following ≡ items → last < 2 ^ w → unnum w last ≡ take n (unnum w spill) ++ replicate (w - n) false → take (length following) (unnum w spill) ≡ following → words w items ≡ last ∷ []

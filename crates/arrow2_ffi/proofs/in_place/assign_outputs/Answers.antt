@@ -1,16 +1,12 @@
-use Rattle.std.proofs.Common.{◌≡◌, ◌∙◌, ℕ, List, ◌∷◌, Bool, ap, length, take, arith}
+use Rattle.std.proofs.Common.{◌≡◌, ◌∙◌, ℕ, List, ◌∷◌, Bool, length, take, arith}
 use Rattle.std.proofs.lemmas.List.{length-take-le}
 use Rattle.arrow2_model.specs.Bits.{bits}
-use Rattle.arrow2_model.specs.Kernels.{word, words_at}
-use Rattle.arrow2_model.specs.Rows.{AreRowsOf}
+use Rattle.arrow2_model.specs.Kernels.{word}
 use Rattle.arrow2_model.proofs.Bits.{length-bits}
 use Rattle.arrow2_model.proofs.Kernels.{table_word}
 use Rattle.arrow2_model.proofs.RowKernels.{rows_table, acts_paired}
+use Rattle.arrow2_kernels.proofs.RowSteps.{paired_own}
 use Rattle.arrow2_ffi.proofs.in_place.assign_outputs.Goals as goal
-
--- the rows of the list itself and of those paired with it
-paired_own : (w n : ℕ) (own : List Bool) (lists : List (List Bool)) (row : ℕ → List ℕ) → length own ≡ n → ((j : ℕ) → row j ≡ words_at w lists j) → AreRowsOf w (own ∷ lists) (λ j. word w own j ∷ row j) n
-paired_own w n own lists row l are = (l, λ j. ap (λ r. word w own j ∷ r) (are j))
 
 pub returns-clause-items : goal.returns-clause-items
 returns-clause-items g c t lists acts are =

@@ -1,20 +1,16 @@
 use Rattle.std.proofs.Common.{◌≡◌, ◌∙◌, ℕ, List, ◌∷◌, Bool, ap, sym, subst, length, take, arith}
 use Rattle.arrow2_model.specs.Bits.{bits}
-use Rattle.arrow2_model.specs.Kernels.{word, words_at, bits_of_words, kernel}
-use Rattle.arrow2_model.specs.Rows.{AreRowsOf}
+use Rattle.arrow2_model.specs.Kernels.{word, bits_of_words, kernel}
 use Rattle.arrow2_model.specs.Tables.{each}
 use Rattle.arrow2_model.proofs.Kernels.{table_word}
 use Rattle.arrow2_model.proofs.RowKernels.{rows_kernel, rows_table, acts_paired}
 use Rattle.arrow2_kernels.specs.WordResults.{MayReturnOwn}
+use Rattle.arrow2_kernels.proofs.RowSteps.{paired_own}
 use Rattle.arrow2_kernels.proofs.VectorWrites.{whole_written}
 use Rattle.arrow2_kernels.proofs.WordResults.{results_as}
 use Rattle.arrow2_packed_bits.proofs.Buffer.{length_items}
 use Rattle.arrow2_packed_bits.proofs.packed_bits.PackedBits.assign_rows.Given as given
 use Rattle.arrow2_packed_bits.proofs.packed_bits.PackedBits.assign_rows.Goals as goal
-
--- the rows of the list itself and of those paired with it
-paired_own : (w n : ℕ) (own : List Bool) (lists : List (List Bool)) (row : ℕ → List ℕ) → length own ≡ n → ((j : ℕ) → row j ≡ words_at w lists j) → AreRowsOf w (own ∷ lists) (λ j. word w own j ∷ row j) n
-paired_own w n own lists row l are = (l, λ j. ap (λ r. word w own j ∷ r) (are j))
 
 pub returns-clause-kernel : goal.returns-clause-kernel
 returns-clause-kernel g c f lists is are =
