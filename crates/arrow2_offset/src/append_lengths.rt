@@ -114,9 +114,7 @@ fn with_spare_capacity<O>(mut offsets: Vec<O>) -> (Vec<O>, Result<(), AllocError
     (offsets, outcome)
 }
 
-/// Reserves capacity for more lengths. If the vector has n lengths, and n is below `LEAST_CAPACITY`, reserves for
-/// `LEAST_CAPACITY` more; else for the greater of `3 * n` and `SECOND_CAPACITY - LEAST_CAPACITY` more. There is one
-/// offset more than there are lengths.
+/// Reserves capacity for more lengths: for `additional_lengths` more. There is one offset more than there are lengths.
 #[cold]
 #[inline(never)]
 fn grow_capacity<O>(offsets: &mut Vec<O>) -> Result<(), AllocError>
@@ -124,12 +122,17 @@ fn grow_capacity<O>(offsets: &mut Vec<O>) -> Result<(), AllocError>
     ensures capacity { vec_capacity offsets.old ≤ vec_capacity offsets.new }
     ensures ok { OnOk result (vec_len offsets.new < vec_capacity offsets.new) }
 {
-    let lengths = offsets.len().saturating_sub(1);
-    offsets.reserve_exact(if lengths < LEAST_CAPACITY {
+    offsets.reserve_exact(additional_lengths(offsets.len().saturating_sub(1)))
+}
+
+/// Returns for how many lengths more capacity is reserved where there are n lengths: for `LEAST_CAPACITY` if n is below
+/// `LEAST_CAPACITY`, else for the greater of `3 * n` and `SECOND_CAPACITY - LEAST_CAPACITY`.
+fn additional_lengths(n: usize) -> usize
+    ensures { 0 < result }
+{
+    if n < LEAST_CAPACITY {
         LEAST_CAPACITY
     } else {
-        lengths
-            .saturating_mul(3)
-            .max(SECOND_CAPACITY - LEAST_CAPACITY)
-    })
+        n.saturating_mul(3).max(SECOND_CAPACITY - LEAST_CAPACITY)
+    }
 }
