@@ -43,8 +43,9 @@ pub fn from_rows<S: WordRows<u64>, F: Fn(S::Row) -> u64>(
     requires callable { F.IsAlwaysCallable op }
     requires same_lengths { S.same_lengths rows }
     requires len { S.len rows ≡ len }
-    // If the results of `op` are those of a mathematical function `f` on words: the items are the bits of the results
-    // of `f` for the rows, in their order, cut to `len`. The number of a word of type `u64` is the word: `λ x. x`.
+    // If the lowest 64 bits of the results of `op` are those of a mathematical function `f` on words: the items are the
+    // bits of the results of `f` for the rows, in their order, cut to `len`. The number of a word of type `u64` is the
+    // word: `λ x. x`.
     ensures items { (f : List ℕ → ℕ) → ComputesRows 64 S.words (λ x. x) (F.post op) f →
         IfOk result (λ b. items_of b ≡ bits_of_words 64 (λ j. f (S.row_at rows j)) len) }
     // If, besides, the rows are the words of some `lists` of booleans: the items are `kernel 64 f lists`.

@@ -198,6 +198,8 @@ impl Bitmap {
 
     /// Returns the bitmap of the items.
     ///
+    /// Stands for arrow2's `From` of a slice of booleans.
+    ///
     /// # Errors
     ///
     /// `OutOfMemory` alone.
@@ -412,6 +414,7 @@ impl Bitmap {
     pub fn chunks<T: BitChunk>(&self) -> BitChunks<'_, T>
         ensures items { result.items ≡ items_of self.now }
         ensures fits { length (items_of self.now) < 2 ^ 64 }
+        // The word that `remainder` returns: the items after the full words; above them, stored bits that are no items.
         ensures spill { result.spill ≡ spill T.SIZE self.now.bytes
             self.now.offset self.now.len }
     {
@@ -539,6 +542,7 @@ impl Bitmap {
     /// begin at bit 0. No clause is on sharing: it is not proved that `Right` comes only if nobody shares the bytes,
     /// nor that it comes whenever nobody shares them and the items begin at bit 0.
     pub fn into_mut(self) -> Either<Bitmap, MutableBitmap>
+        // Which of the two is returned where the offset is 0 is not stated.
         ensures { MatchEither result (λ b. b ≡ self) (λ m. (self.offset ≡ 0)
             × (m.items ≡ items_of self)) }
     {

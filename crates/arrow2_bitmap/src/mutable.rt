@@ -57,6 +57,7 @@ impl Model for MutableBitmap {
 
     ghost Value = { GrowingBitmap };
 
+    // As its packed bits are seen.
     ghost view = { λ m. m.bits };
 }
 
@@ -176,6 +177,8 @@ impl MutableBitmap {
     }
 
     /// Returns the bitmap of the items.
+    ///
+    /// Stands for arrow2's `From` of a slice of booleans.
     ///
     /// # Errors
     ///
