@@ -315,6 +315,8 @@ fn collected(inputs: &Inputs) -> Vec<Line<'_>> {
         on("from_bools", (4 * MANY, "items"), "from_bools", vec![MANY; 4]),
         on("from_bools of 64 items", CALLS, "from_bools", few(64)),
         on("from_bools of 1,000 items", CALLS, "from_bools", few(1_000)),
+        on("extend_from_bools", (4 * MANY, "items"), "extend_from_bools", vec![MANY; 4]),
+        on("extend_from_bools of 64 items", CALLS, "extend_from_bools", few(64)),
         on("try_from_iter of booleans", (MANY, "items"), "try_from_iter", vec![MANY]),
         on("try_from_iter of 64 booleans", CALLS, "try_from_iter", few(64)),
         on("try_from_iter of 1,000 booleans", CALLS, "try_from_iter", few(1_000)),

@@ -16,6 +16,8 @@ pub extern "C" fn bench_bools(alloc: Global, call: &[u8], items: &[bool], runs: 
         on_firsts(items, runs, |items| push(alloc, items))
     } else if call == b"from_bools".as_slice() {
         on_firsts(items, runs, |items| from_bools(alloc, items))
+    } else if call == b"extend_from_bools".as_slice() {
+        on_firsts(items, runs, |items| extend_from_bools(alloc, items))
     } else if call == b"try_from_iter".as_slice() {
         on_firsts(items, runs, |items| try_from_iter(alloc, items))
     } else {
@@ -35,6 +37,13 @@ fn push(alloc: Global, items: &[bool]) -> Result<usize> {
 /// Counts the false items among booleans.
 fn from_bools(alloc: Global, items: &[bool]) -> Result<usize> {
     Ok(Bitmap::from_bools(alloc, items)?.unset_bits())
+}
+
+/// Counts the false items of a bitmap of five items to which booleans are appended.
+fn extend_from_bools(alloc: Global, items: &[bool]) -> Result<usize> {
+    let mut bitmap = MutableBitmap::from_len_zeroed(alloc, 5)?;
+    bitmap.extend_from_bools(items)?;
+    Ok(bitmap.unset_bits())
 }
 
 /// Counts the false items of an iterator.
