@@ -1,5 +1,5 @@
-/* A batch of two boolean columns, one of which has no validity bitmap, a null array and a union: checks it, counts the
- * nulls of each column, and prints which rows are valid in two columns, and Kleene's AND of the booleans. Releases it.
+/* A batch of two boolean columns (one has no validity bitmap), a null array and a union: checks it, counts the nulls of
+ * each column, and prints which rows are valid in two columns, and Kleene's AND of the booleans. Releases it.
  * Then checks a batch that was released, and offsets and bytes that belong to no array. */
 #include "arrow2_c_data.h"
 

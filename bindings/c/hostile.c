@@ -260,7 +260,7 @@ static void right(const char *name, struct tree *of) {
     break_all(name, of, of);
 }
 
-/* ---- Right arrays: three items from item 2 on, the second of which is null, if they may be */
+/* ---- Right arrays: three items from item 2 on; the second is null, if items may be null */
 
 static const uint8_t valid[] = {0x15};
 
@@ -515,7 +515,7 @@ static void hostile_formats(void) {
     }
 }
 
-/* Lists in lists, the innermost of which has no items. */
+/* Lists in lists; the innermost one has no items. */
 static struct tree *nested(int depth) {
     const int32_t none[] = {0};
     struct tree *made = items(0);

@@ -1,5 +1,5 @@
-/* Calls each function of the library with a null pointer for each slice of no item, which arrow2_proved.h allows, and
- * those of arrow2_c_data.h over bits with and without bytes. */
+/* Calls each function of the library that takes a slice, with a null pointer for each slice of no item, which
+ * arrow2_proved.h allows, and those of arrow2_c_data.h over bits with and without bytes. */
 #include "arrow2_c_data.h"
 
 #include <stdio.h>
@@ -142,7 +142,7 @@ static void forms(void) {
     EXPECT(ARROW2_OK, arrow2_bits_not(none, 0, NULL, 0));
 }
 
-/* AND of two validities, each of which is there or missing. */
+/* AND of two validities; each is there or missing. */
 static void validities(void) {
     const uint8_t bytes[] = {0x6c, 0x03}, other_bytes[] = {0xc0, 0x0f};
     struct arrow2_bits none = {NULL, 0, 0}, false_count = {NULL, 100, 7};

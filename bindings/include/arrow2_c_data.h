@@ -1045,7 +1045,7 @@ static inline const char *arrow2_code_text(uint32_t code) {
         "there is no offset",
         "the first offset is negative",
         "an offset falls",
-        "the nulls are not as many as declared",
+        "the number of nulls is not the declared one",
         "an offset is past its items",
         "a text is not UTF-8",
         "an index is outside its dictionary",

@@ -62,7 +62,7 @@ impl fmt::Display for Error {
             Error::NoOffset => "offsets must have at least one element",
             Error::NegativeOffset => "the first offset is negative",
             Error::FallingOffsets => "an offset is below the one before it",
-            Error::Nulls => "the nulls are not as many as declared",
+            Error::Nulls => "the number of nulls is not the declared one",
             Error::PastOffset => "an offset is past its items",
             Error::NotUtf8 => "a text is not UTF-8",
             Error::Index => "an index is outside its dictionary",

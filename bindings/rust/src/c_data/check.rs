@@ -310,8 +310,8 @@ impl Buffer {
         (!self.start.is_null()).then(|| Bits { bytes: unsafe { self.items(0, count) }, offset: self.offset })
     }
 
-    /// Checks the offsets of the array, none of which may be above `items`, and returns them: one more than there are
-    /// slots. Where there is no slot none is read.
+    /// Checks the offsets of the array, and returns them: one more than there are slots. None may be above `items`.
+    /// Where there is no slot none is read.
     unsafe fn offsets<'a, O: Offset>(&self, items: usize) -> Result<&'a [O], Fault> {
         if self.length == 0 {
             return Ok(&[]);

@@ -1,4 +1,5 @@
-//! Each item of the one crate that users name, at its path: this file compiles.
+//! Items of the one crate that users name, at their paths: this file compiles. Other tests name the arrays of numbers,
+//! of byte strings and of texts, and `compute`.
 use super::checks::{assert_text, assert_that};
 pub use arrow2::array::{BooleanArray, BooleanIter, MutableBooleanArray};
 pub use arrow2::bitmap::utils::{
