@@ -358,9 +358,9 @@ impl BooleanArray {
         self.by_tables::<OR_VALUES, OR_KNOWN, OR_KNOWN_PAIRED>(other)
     }
 
-    /// Returns, item by item, the result of an operator for the items of both arrays. Table `VALUES` of both values gives
-    /// its values; `KNOWN` and `PAIRED` give its validity, as in `validity_by`. Requires that both arrays have equal
-    /// lengths, and that `PAIRED` agrees with `KNOWN`.
+    /// Returns, item by item, the result of an operator for the items of both arrays. Table `VALUES` of both values
+    /// gives its values; `KNOWN` and `PAIRED` give its validity, as in `validity_by`. Requires that both arrays have
+    /// equal lengths, and that `PAIRED` agrees with `KNOWN`.
     fn by_tables<const VALUES: u8, const KNOWN: u16, const PAIRED: u8>(
         &self,
         other: &BooleanArray,

@@ -40,10 +40,10 @@ pub const AND_KNOWN_PAIRED: u8 = 0b1100_1111;
 /// of [`AND_KNOWN_PAIRED`].
 pub const OR_KNOWN_PAIRED: u8 = 0b1111_1100;
 
-/// Returns the validity of the results of an operator for the items of two arrays. `KNOWN` is its table of both values and
-/// validities. Where exactly one array has a validity bitmap, uses table `PAIRED`. Where neither has one, the returned
-/// validity has none. Requires that `PAIRED` agrees with `KNOWN`, and that both bitmaps and both validities have equal
-/// lengths.
+/// Returns the validity of the results of an operator for the items of two arrays. `KNOWN` is its table of both values
+/// and validities. Where exactly one array has a validity bitmap, uses table `PAIRED`. Where neither has one, the
+/// returned validity has none. Requires that `PAIRED` agrees with `KNOWN`, and that both bitmaps and both validities
+/// have equal lengths.
 ///
 /// The tables are const parameters, so that the compiler simplifies each to a few operations on words.
 pub(crate) fn validity_by<const KNOWN: u16, const PAIRED: u8>(

@@ -76,7 +76,8 @@ impl<T: Drop> From<AllocFailed<T>> for CommandError {
 }
 
 /// `Overflow` becomes `LineError::Overflow`, `OutOfMemory` stays `OutOfMemory`, and every other error becomes
-/// `LineError::Range`. Of these no call that a command makes returns any but `InvalidArgumentError` and `OutOfSpec`.
+/// `LineError::Range`. Of the other errors, the calls that commands make return only `InvalidArgumentError` and
+/// `OutOfSpec`.
 impl From<Error> for CommandError {
     ghost use Rattle.arrow2_machine.specs.Outcomes.{command_error};
 
