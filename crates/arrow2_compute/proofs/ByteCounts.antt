@@ -34,7 +34,7 @@ taken-fits weight f xs k d less =
     let e = sum_by_push weight (map f (take k xs)) (f (get_or xs k d)) in
     omega (arith, a, b, e)
 
--- the same of a choice between two lists
+-- the first items chosen between two lists weigh at most as much as all items chosen
 pub chosen-fits : {X : Type 0} (weight : X → ℕ) (n : ℕ) (ms : List Bool) (xs ys : List X) → sum_by weight (choice (take n ms) (take n xs) (take n ys)) ≤ sum_by weight (choice ms xs ys)
 chosen-fits weight zero ms xs ys = omega arith
 chosen-fits weight (suc n) [] xs ys = omega arith

@@ -1,4 +1,4 @@
--- Indices into a dictionary, some of which may be null.
+-- Indices into a dictionary: each is a number or null.
 use Rattle.std.specs.Prelude.{◌≡◌, ◌≢◌, ℕ, ◌<◌, ◌↔◌, ◌⊎◌, ℤ, pos, ◌<ℤ◌, ◌≤ℤ◌, List, length, Bool, false, Option, MatchOption, slice_index_or}
 use Rattle.std.specs.Bool.{IsTrue}
 use Rattle.arrow2_ffi.specs.declared.codes.TheConstants.{ARROW2_OK, ARROW2_RANGE, ARROW2_INDEX}

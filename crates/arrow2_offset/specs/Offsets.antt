@@ -75,6 +75,6 @@ SameOffsets old new = (new.start ≡ old.start) × (new.lengths ≡ old.lengths)
 abbrev pub GrownBy : List ℕ → GrowingOffsets → GrowingOffsets → Type 0
 GrownBy ns old new = (new.start ≡ old.start) × (new.lengths ≡ old.lengths ++ ns)
 
--- offsets none of which is above the greatest one of their type
+-- offsets, each at most the greatest one of their type
 abbrev pub AreOffsetsUpTo : ℕ → List ℤ → Type 0
 AreOffsetsUpTo max xs = AreOffsets xs × (last_of xs ≤ max)

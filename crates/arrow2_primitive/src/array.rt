@@ -71,7 +71,7 @@ impl<T: NativeType> Model for PrimitiveArray<T> {
     ghost Value = { PrimitiveParts T };
 
     // The encoding by which proofs tell two values apart. `Prim.hlevel` derives it from the encodings of std's types
-    // and of `DataType`. `DataType` is recursive, so the kit generates its encoding, `the_row`.
+    // and of `DataType`. `DataType` is recursive, so the kit generates its encoding, `the_row.coded`.
     ghost coded = { Prim.hlevel (codes, logical_type.the_row.coded) };
 
     ghost view = { λ a. record { data_type = a.data_type.value; values = a.values; validity = a.validity } };

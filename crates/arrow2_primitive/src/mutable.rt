@@ -65,7 +65,7 @@ impl<T: NativeType> Model for MutablePrimitiveArray<T> {
     ghost Value = { GrowingPrimitive T };
 
     // The encoding by which proofs tell two values apart. `Prim.hlevel` derives it from the encodings of std's types
-    // and of `DataType`. `DataType` is recursive, so the kit generates its encoding, `the_row`.
+    // and of `DataType`. `DataType` is recursive, so the kit generates its encoding, `the_row.coded`.
     ghost coded = { Prim.hlevel (codes, logical_type.the_row.coded) };
 
     ghost view = { λ a. record {

@@ -360,8 +360,8 @@ fn thaw<O: Offset>(
     }
 }
 
-/// Shares all parts. Does not allocate. It fails only if the reference count of an `Rc` would overflow. No clause states
-/// when it fails.
+/// Shares all parts. Does not allocate. Fails only if the reference count of an `Rc` would overflow; no clause states
+/// when.
 impl<O: Offset> Clone for Slots<O> {
     ghost is_clone = { λ a copy. copy ≡ a };
 

@@ -13,7 +13,7 @@ use std::process::Abort;
 /// Returns the number of items.
 const MILLION: usize = 1_000_000;
 
-/// Requires that the call made a million items, and that `falses` of them are false.
+/// Checks that the call made a million items, and that `falses` of them are false.
 fn counts(rt: &impl Abort, made: Result<Bitmap>, falses: usize) {
     let bitmap = ok(rt, made);
     assert_that(rt, bitmap.len() == MILLION);
