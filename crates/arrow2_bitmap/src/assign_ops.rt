@@ -141,6 +141,7 @@ pub fn binary_assign_table<W: BitChunk>(lhs: &mut MutableBitmap, rhs: &Bitmap, t
 impl<'a> BitAndAssign<&'a Bitmap> for MutableBitmap {
     ghost can_bitand_assign = { λ m b. length m.items ≡ length (items_of b.now) };
 
+    // Table 8: true only for two true items.
     ghost bitand_assign_gives = { λ old b new. (new.items
         ≡ each 8 (old.items ∷ items_of b.now ∷ [])) × (new.capacity ≡ old.capacity) };
 
@@ -155,6 +156,7 @@ impl<'a> BitAnd<&'a Bitmap> for MutableBitmap {
 
     ghost can_bitand = { λ m b. length m.items ≡ length (items_of b.now) };
 
+    // Table 8: true only for two true items.
     ghost bitand_gives = { λ m b r. (r.items ≡ each 8 (m.items ∷ items_of b.now ∷ []))
         × (r.capacity ≡ m.capacity) };
 
@@ -170,6 +172,7 @@ impl<'a> BitAnd<&'a Bitmap> for MutableBitmap {
 impl<'a> BitOrAssign<&'a Bitmap> for MutableBitmap {
     ghost can_bitor_assign = { λ m b. length m.items ≡ length (items_of b.now) };
 
+    // Table 14: false only for two false items.
     ghost bitor_assign_gives = { λ old b new. (new.items
         ≡ each 14 (old.items ∷ items_of b.now ∷ [])) × (new.capacity ≡ old.capacity) };
 
@@ -184,6 +187,7 @@ impl<'a> BitOr<&'a Bitmap> for MutableBitmap {
 
     ghost can_bitor = { λ m b. length m.items ≡ length (items_of b.now) };
 
+    // Table 14: false only for two false items.
     ghost bitor_gives = { λ m b r. (r.items ≡ each 14 (m.items ∷ items_of b.now ∷ []))
         × (r.capacity ≡ m.capacity) };
 
@@ -199,6 +203,7 @@ impl<'a> BitOr<&'a Bitmap> for MutableBitmap {
 impl<'a> BitXorAssign<&'a Bitmap> for MutableBitmap {
     ghost can_bitxor_assign = { λ m b. length m.items ≡ length (items_of b.now) };
 
+    // Table 6: true where the two items differ.
     ghost bitxor_assign_gives = { λ old b new. (new.items
         ≡ each 6 (old.items ∷ items_of b.now ∷ [])) × (new.capacity ≡ old.capacity) };
 
@@ -213,6 +218,7 @@ impl<'a> BitXor<&'a Bitmap> for MutableBitmap {
 
     ghost can_bitxor = { λ m b. length m.items ≡ length (items_of b.now) };
 
+    // Table 6: true where the two items differ.
     ghost bitxor_gives = { λ m b r. (r.items ≡ each 6 (m.items ∷ items_of b.now ∷ []))
         × (r.capacity ≡ m.capacity) };
 
@@ -227,6 +233,7 @@ impl<'a> BitXor<&'a Bitmap> for MutableBitmap {
 impl Not for MutableBitmap {
     type Output = MutableBitmap;
 
+    // Table 1: true for a false item.
     ghost not_gives = { λ m r. (r.items ≡ each 1 (m.items ∷ [])) × (r.capacity ≡ m.capacity) };
 
     fn not(self) -> MutableBitmap {
@@ -240,6 +247,7 @@ impl Not for MutableBitmap {
 /// is true, writes nothing.
 fn and_assign(lhs: &mut MutableBitmap, rhs: &Bitmap)
     requires same_length { length lhs.old.items ≡ length (items_of rhs.now) }
+    // Table 8: true only for two true items.
     ensures items { lhs.new.items ≡ each 8 (lhs.old.items ∷ items_of rhs.now ∷ []) }
     ensures capacity { lhs.new.capacity ≡ lhs.old.capacity }
 {
@@ -254,6 +262,7 @@ fn and_assign(lhs: &mut MutableBitmap, rhs: &Bitmap)
 /// `rhs` is false, writes nothing.
 fn or_assign(lhs: &mut MutableBitmap, rhs: &Bitmap)
     requires same_length { length lhs.old.items ≡ length (items_of rhs.now) }
+    // Table 14: false only for two false items.
     ensures items { lhs.new.items ≡ each 14 (lhs.old.items ∷ items_of rhs.now ∷ []) }
     ensures capacity { lhs.new.capacity ≡ lhs.old.capacity }
 {
@@ -267,6 +276,7 @@ fn or_assign(lhs: &mut MutableBitmap, rhs: &Bitmap)
 /// Sets each item to true if it differs from the item of `rhs` at the same index, else to false.
 fn xor_assign(lhs: &mut MutableBitmap, rhs: &Bitmap)
     requires same_length { length lhs.old.items ≡ length (items_of rhs.now) }
+    // Table 6: true where the two items differ.
     ensures items { lhs.new.items ≡ each 6 (lhs.old.items ∷ items_of rhs.now ∷ []) }
     ensures capacity { lhs.new.capacity ≡ lhs.old.capacity }
 {
@@ -275,6 +285,7 @@ fn xor_assign(lhs: &mut MutableBitmap, rhs: &Bitmap)
 
 /// Inverts each item.
 fn not_assign(bitmap: &mut MutableBitmap)
+    // Table 1: true for a false item.
     ensures items { bitmap.new.items ≡ each 1 (bitmap.old.items ∷ []) }
     ensures capacity { bitmap.new.capacity ≡ bitmap.old.capacity }
 {

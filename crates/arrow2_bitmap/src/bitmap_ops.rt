@@ -39,16 +39,17 @@ pub fn from_rows<S: WordRows<u64>, F: Fn(S::Row) -> u64>(
     rows: S,
     op: F,
 ) -> Result<Bitmap>
-    // `op` accepts any words, and each list of `rows` has `len` items.
+    // `op` accepts any row, and each list of `rows` has `len` items still to come.
     requires callable { F.IsAlwaysCallable op }
     requires same_lengths { S.same_lengths rows }
     requires len { S.len rows ≡ len }
-    // If the lowest 64 bits of the results of `op` are those of a mathematical function `f` on words: the items are the
-    // bits of the results of `f` for the rows, in their order, cut to `len`. The number of a word of type `u64` is the
-    // word: `λ x. x`.
+    // If the lowest 64 bits of the results of `op` are those of a mathematical function `f` on rows, each given as the
+    // list of its words: the items are the bits of the results of `f` for the rows, in their order, cut to `len`. The
+    // number of a word of type `u64` is the word: `λ x. x`.
     ensures items { (f : List ℕ → ℕ) → ComputesRows 64 S.words (λ x. x) (F.post op) f →
         IfOk result (λ b. items_of b ≡ bits_of_words 64 (λ j. f (S.row_at rows j)) len) }
-    // If, besides, the rows are the words of some `lists` of booleans: the items are `kernel 64 f lists`.
+    // If, besides, the rows are the words of some `lists` of booleans, the first of which has `len` items: the items
+    // are `kernel 64 f lists`.
     ensures kernel { (f : List ℕ → ℕ) (lists : List (List Bool)) →
         ComputesRows 64 S.words (λ x. x) (F.post op) f →
         AreRowsOf 64 lists (S.row_at rows) len →
@@ -283,6 +284,7 @@ impl<'a, 'b> BitAnd<&'b Bitmap> for &'a Bitmap {
 
     ghost can_bitand = { λ a b. length (items_of a.now) ≡ length (items_of b.now) };
 
+    // Table 8: true only for two true items.
     ghost bitand_gives = { λ a b r. MatchResult r (λ m. IsPacked m × (items_of m
         ≡ each 8 (items_of a.now ∷ items_of b.now ∷ []))) (λ e. e ≡ OutOfMemory) };
 
@@ -297,6 +299,7 @@ impl<'a, 'b> BitOr<&'b Bitmap> for &'a Bitmap {
 
     ghost can_bitor = { λ a b. length (items_of a.now) ≡ length (items_of b.now) };
 
+    // Table 14: false only for two false items.
     ghost bitor_gives = { λ a b r. MatchResult r (λ m. IsPacked m × (items_of m
         ≡ each 14 (items_of a.now ∷ items_of b.now ∷ []))) (λ e. e ≡ OutOfMemory) };
 
@@ -311,6 +314,7 @@ impl<'a, 'b> BitXor<&'b Bitmap> for &'a Bitmap {
 
     ghost can_bitxor = { λ a b. length (items_of a.now) ≡ length (items_of b.now) };
 
+    // Table 6: true where the two items differ.
     ghost bitxor_gives = { λ a b r. MatchResult r (λ m. IsPacked m × (items_of m
         ≡ each 6 (items_of a.now ∷ items_of b.now ∷ []))) (λ e. e ≡ OutOfMemory) };
 

@@ -414,7 +414,8 @@ impl Bitmap {
     pub fn chunks<T: BitChunk>(&self) -> BitChunks<'_, T>
         ensures items { result.items ≡ items_of self.now }
         ensures fits { length (items_of self.now) < 2 ^ 64 }
-        // The word that `remainder` returns: the items after the full words; above them, stored bits that are no items.
+        // The word that `remainder` returns. Lowest bits: the items after the full words. Above them: stored bits that
+        // are no items, as far as `spilled_bytes` goes. Then zeros.
         ensures spill { result.spill ≡ spill T.SIZE self.now.bytes
             self.now.offset self.now.len }
     {

@@ -39,6 +39,9 @@ fn assign_outputs<S: WordRows<u64>, F: Fn(u64, S::Row) -> u64>(
     requires same_lengths { S.same_lengths rows }
     requires len { S.len rows ≡ len }
     requires exact { HasBytesForBits bytes.old len }
+    // No padding bit is set. If each bit of a result of `op` is the output of table `t` for the bits at its index of
+    // the word and of the words of the row, and row j has word j of each of `lists`: each of the first `len` bits is
+    // replaced by the output of `t` for this bit, then the items of `lists` at its index.
     ensures canonical { IsCanonical bytes.new len }
     ensures items { (t : ℕ) (lists : List (List Bool)) →
         IsBitwiseOnOwnRows 64 S.words (λ x. x) (F.post op) t →

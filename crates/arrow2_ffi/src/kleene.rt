@@ -88,7 +88,8 @@ pub extern "C" fn arrow2_or_kleene(
     write::<OR_VALUES, OR_KNOWN>(left, right, length, values, validity)
 }
 
-/// Writes the values by table `VALUES` of two inputs, and the validity by table `KNOWN` of four inputs.
+/// Writes the values by table `VALUES` of two inputs, and the validity by table `KNOWN` of four inputs. The contract
+/// states something only if an operator `f` exists that both tables compute, as they do for AND and for OR.
 fn write<const VALUES: u8, const KNOWN: u16>(
     left: Nullable<'_>,
     right: Nullable<'_>,

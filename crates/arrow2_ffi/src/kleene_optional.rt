@@ -100,8 +100,9 @@ pub extern "C" fn arrow2_or_kleene_optional(
     write::<OR_VALUES, OR_KNOWN, OR_KNOWN_PAIRED>(left, right, length, values, validity)
 }
 
-/// Writes the values by table `VALUES` of two inputs, and the validity as `write_known` does. `write_known` states the
-/// conditions on the tables.
+/// Writes the values by table `VALUES` of two inputs, and the validity as `write_known` does, which states what it
+/// requires of the tables. The contract states something only if an operator `f` exists that `VALUES` and `KNOWN`
+/// compute, as they do for AND and for OR.
 fn write<const VALUES: u8, const KNOWN: u16, const PAIRED: u8>(
     left: Side<'_>,
     right: Side<'_>,

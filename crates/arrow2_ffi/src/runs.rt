@@ -27,9 +27,9 @@ pub extern "C" fn arrow2_runs(
     lengths: &mut [usize],
     count: &mut usize,
 ) -> u32
-    // For each i below `count`, a run begins at `starts[i]` and has `lengths[i]` set bits; index 0 is bit `offset`. If
-    // `at.old` is inside a run, the first run is the rest of it. The runs from `at.new` on are those that are not yet
-    // written; where the slices are not full, `at.new` is `length`.
+    // With `ARROW2_OK`: for each i below `count.new`, a run begins at `starts.new[i]` and has `lengths.new[i]` set
+    // bits; index 0 is bit `offset`. If `at.old` is inside a run, the first run is the rest of it. The runs from
+    // `at.new` on are those that are not yet written; where the slices are not full, `at.new` is `length`.
     ensures { FindsRuns result bytes.now offset length
         (run_outputs starts.old lengths.old at.old count.old)
         (run_outputs starts.new lengths.new at.new count.new) }

@@ -28,8 +28,8 @@ pub extern "C" fn arrow2_set_indices(
     indices: &mut [usize],
     count: &mut usize,
 ) -> u32
-    // The first `count` of `indices`, then the indices of set bits from `at.new` on, are the indices of set bits from
-    // `at.old` on; where `indices` is not full, `at.new` is `length`.
+    // With `ARROW2_OK`: the first `count.new` of `indices.new`, then the indices of set bits from `at.new` on, are the
+    // indices of set bits from `at.old` on; where `indices` is not full, `at.new` is `length`. Index 0 is bit `offset`.
     ensures { FindsSetIndices result bytes.now offset length
         (index_outputs indices.old at.old count.old)
         (index_outputs indices.new at.new count.new) }
@@ -76,10 +76,13 @@ fn write_indices(bits: Bits<'_>, end: usize, at: usize, indices: &mut [usize]) -
 fn write_ones(word: u64, base: usize, count: usize, indices: &mut [usize]) -> (usize, Option<usize>)
     requires few { count ≤ length indices.old }
     requires fit { All (λ index. index < 2 ^ 64) (map (λ k. base + k) (ones (unnum 64 word))) }
+    // `result.0` is how many indices there are after the call, and `indices` has no more.
     ensures size { length indices.new ≡ length indices.old }
     ensures few { result.0 ≤ length indices.old }
+    // `None`: `base` plus each set bit of the word comes after the first `count` indices.
     ensures all { IfNone result.1 (take result.0 indices.new
         ≡ take count indices.old ++ map (λ k. base + k) (ones (unnum 64 word))) }
+    // `Some(next)`: `indices` is full, `next` is the first index that did not fit, and `others` are those after it.
     ensures next { IfSome result.1 (λ next. (result.0 ≡ length indices.old)
         × (others : List ℕ) × (take result.0 indices.new ++ next ∷ others
         ≡ take count indices.old ++ map (λ k. base + k) (ones (unnum 64 word)))) }

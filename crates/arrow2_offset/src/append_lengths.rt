@@ -62,17 +62,19 @@ fn append_sums<O: Offset, I: Iterator<Item = usize> + Drop>(
     mut offsets: Vec<O>,
     lengths: I,
 ) -> (Vec<O>, Result<(), GrowthError>)
-    // The vector holds offsets, and the iterator ends.
+    // The vector holds offsets. The iterator may be advanced, and it ends.
     requires valid { AreOffsetsUpTo O.MAX (map O.value offsets.items) }
     requires can { I.can_next lengths }
     requires ends { IsFinite (I.remaining lengths) }
-    // The old offsets stay. After `Ok`, a new offset for each yielded length follows them.
+    // After `Ok` the items are offsets. In any case they begin with the old ones; after `Ok`, a new offset for each
+    // yielded length follows these.
     ensures valid { OnOk result.1 (AreOffsetsUpTo O.MAX (map O.value result.0.items)) }
     ensures front { take (length offsets.items) result.0.items ≡ offsets.items }
     ensures ok { OnOk result.1 (WholeRun I.next_gives lengths (λ p.
         LengthenedBy p.items (map O.value offsets.items) (map O.value result.0.items))) }
     // `Overflow` comes only where the last offset plus the sum of the lengths may pass `O::MAX`; `OutOfMemory` only
-    // where the number of lengths may exceed the spare capacity.
+    // where the number of lengths may exceed the spare capacity: the capacity in lengths, which is one less than that
+    // of the vector, minus the number of lengths that are there.
     ensures overflow { IsErrOf result.1 growth_error.Overflow →
         MayYieldPast O.MAX (last_of (map O.value offsets.items)) I.next_gives lengths }
     ensures out_of_memory { IsErrOf result.1 growth_error.OutOfMemory →
@@ -114,7 +116,8 @@ fn with_spare_capacity<O>(mut offsets: Vec<O>) -> (Vec<O>, Result<(), AllocError
     (offsets, outcome)
 }
 
-/// Reserves capacity for more lengths: for `additional_lengths` more. There is one offset more than there are lengths.
+/// Reserves capacity for more lengths: for `additional_lengths` more. The contract states only that there is spare
+/// capacity. There is one offset more than there are lengths.
 #[cold]
 #[inline(never)]
 fn grow_capacity<O>(offsets: &mut Vec<O>) -> Result<(), AllocError>
@@ -126,7 +129,8 @@ fn grow_capacity<O>(offsets: &mut Vec<O>) -> Result<(), AllocError>
 }
 
 /// Returns for how many lengths more capacity is reserved where there are n lengths: for `LEAST_CAPACITY` if n is below
-/// `LEAST_CAPACITY`, else for the greater of `3 * n` and `SECOND_CAPACITY - LEAST_CAPACITY`.
+/// `LEAST_CAPACITY`, else for the greater of `3 * n` and `SECOND_CAPACITY - LEAST_CAPACITY`. The contract states only
+/// that it is at least one.
 fn additional_lengths(n: usize) -> usize
     ensures { 0 < result }
 {

@@ -185,7 +185,7 @@ impl<O: Offset> Offsets<O> {
         // its capacity.
         ensures capacity { self.old.capacity ≤ self.new.capacity }
         ensures within_capacity { slots self.old ≤ self.old.capacity }
-        // When it succeeds, and which error can come.
+        // Within the capacity it succeeds. `OutOfMemory` is the only error.
         ensures succeeds { slots self.old + additional ≤ self.old.capacity → IsOk result }
         ensures only { IfErr result (λ e. e ≡ Error.OutOfMemory) }
     {
@@ -467,7 +467,7 @@ impl<O: Offset> Offsets<O> {
         append_lengths(&mut self.offsets, lengths)
     }
 
-    /// Appends the length of each slot of other offsets. Tests their sum before it allocates.
+    /// Appends the length of each slot of other offsets. Tests their sum before it allocates, which no clause states.
     fn append(&mut self, offsets: &[O]) -> std::result::Result<(), GrowthError>
         requires { AreOffsets (map O.value offsets.now) }
         ensures { GrowsUpTo (λ error. error) result self.old self.new

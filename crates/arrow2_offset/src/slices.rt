@@ -36,7 +36,8 @@ pub fn fits<O: Offset>(start: usize, lengths: &[usize]) -> bool
     most <= O::MAX as u128 || total(start, lengths) <= O::MAX as u128
 }
 
-/// Returns the bitwise or of all lengths: a number that none of them exceeds. It is found faster than their sum.
+/// Returns the bitwise or of all lengths. No length exceeds it, so their sum is at most their number times the result,
+/// which is all that the clause states. It is found faster than their sum.
 fn all_bits(lengths: &[usize]) -> usize
     ensures { sum lengths.now ≤ length lengths.now * result }
 {
@@ -73,8 +74,9 @@ pub fn write_sums<O: Offset>(start: usize, lengths: &[usize], offsets: &mut [O])
     }
 }
 
-/// Sets `out[i]` to `offsets[from + i] - offsets[from]`. Requires that the numbers are offsets that are at most
-/// `O::MAX`, that `out` is not empty, and that `from + out.len()` is at most `offsets.len()`.
+/// Sets `out[i]` to `offsets[from + i] - offsets[from]`. Requires that the numbers are offsets, that `out` is not
+/// empty, and that `from + out.len()` is at most `offsets.len()`. No number of the type is above `O::MAX`: the clause
+/// states this for the proof.
 pub fn write_part<O: Offset>(offsets: &[O], from: usize, out: &mut [O])
     requires valid { AreOffsetsUpTo O.MAX (map O.value offsets.now) }
     requires some { 0 < length out.old }
