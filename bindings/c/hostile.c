@@ -219,6 +219,14 @@ static void break_pointers(const char *name, struct tree *root, struct tree *at)
         expect_one_of(name, "no buffers", root, false, ARROW2_C_NULL, ARROW2_C_NULL);
         at->array = kept;
     }
+    if (kept.n_children) {
+        at->array.children = NULL;
+        expect_one_of(name, "no children", root, false, ARROW2_C_NULL, ARROW2_C_NULL);
+        at->array = kept;
+        at->schema.children = NULL;
+        expect_one_of(name, "no children of the schema", root, false, ARROW2_C_NULL, ARROW2_C_NULL);
+        at->schema = kept_schema;
+    }
     for (int64_t i = 0; i < kept.n_children; i++) {
         at->child_arrays[i] = NULL;
         expect_one_of(name, "a child that is null", root, false, ARROW2_C_NULL, ARROW2_C_NULL);
@@ -231,6 +239,9 @@ static void break_pointers(const char *name, struct tree *root, struct tree *at)
         at->array.dictionary = NULL;
         expect_one_of(name, "no dictionary", root, false, ARROW2_C_DICTIONARY, ARROW2_C_DICTIONARY);
         at->array = kept;
+        at->schema.dictionary = NULL;
+        expect_one_of(name, "no dictionary of the schema", root, false, ARROW2_C_DICTIONARY, ARROW2_C_DICTIONARY);
+        at->schema = kept_schema;
     }
 }
 

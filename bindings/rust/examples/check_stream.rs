@@ -89,9 +89,8 @@ fn open() -> Stream {
 
 fn main() {
     let mut stream = open();
-    let schema = stream.schema().expect("a schema");
     while let Some(batch) = stream.next_batch().expect("a batch") {
-        match batch.check(&schema) {
+        match batch.check() {
             Ok(view) => {
                 let texts: Vec<_> =
                     (0..view.len()).filter_map(|slot| view.slot(slot)).map(String::from_utf8_lossy).collect();

@@ -6,9 +6,8 @@
 //! # fn open() -> ArrowArrayStream { unimplemented!() }
 //! // SAFETY: the stream comes from a library that follows the interface.
 //! let mut stream = unsafe { Stream::from_raw(open()) };
-//! let schema = stream.schema().unwrap();
 //! while let Some(batch) = stream.next_batch().unwrap() {
-//!     let view = batch.check(&schema).map_err(|rejected| rejected.broken).unwrap();
+//!     let view = batch.check().map_err(|rejected| rejected.broken).unwrap();
 //!     println!("{} rows", view.len());
 //! }
 //! ```

@@ -7,6 +7,7 @@ use arrow2_proved::{Bits, Error};
 use core::ffi::{CStr, c_int, c_void};
 use std::cell::Cell;
 use std::ptr;
+use std::rc::Rc;
 
 /// How often the arrays of a test were released.
 type Releases = Cell<usize>;
@@ -58,6 +59,12 @@ fn array(releases: &Releases, length: i64, offset: i64, buffers: &mut [*const c_
     }
 }
 
+/// The owner of a schema.
+fn of_type(releases: &Releases, format: &'static CStr) -> Rc<Schema> {
+    // SAFETY: the format is static, and the counter outlives the schema.
+    Rc::new(unsafe { Schema::from_raw(schema(releases, format)) })
+}
+
 static OFFSETS: [i32; 4] = [0, 1, 3, 5];
 static VALID: [u8; 1] = [0b101];
 
@@ -69,15 +76,15 @@ fn texts(values: &'static [u8; 5]) -> [*const c_void; 3] {
 fn each_owner_releases_once() {
     let releases = Releases::new(0);
     let mut buffers = texts(b"a\xc3\xa9xy");
+    let texts = of_type(&releases, c"u");
     // SAFETY, of all below: the buffers have the length that the format requires, and outlive the owners.
-    let of_type = unsafe { Schema::from_raw(schema(&releases, c"u")) };
-    let moved = unsafe { Array::from_raw(array(&releases, 3, 0, &mut buffers)) }.into_raw();
+    let moved = unsafe { Array::from_raw(array(&releases, 3, 0, &mut buffers), Rc::clone(&texts)) }.into_raw();
     assert_eq!(releases.get(), 0);
-    let owner = unsafe { Array::from_raw(moved) };
-    assert!(owner.check(&of_type).is_ok());
+    let owner = unsafe { Array::from_raw(moved, Rc::clone(&texts)) };
+    assert!(owner.check().is_ok() && ptr::eq(owner.schema().as_raw(), texts.as_raw()));
     drop(owner);
     assert_eq!(releases.get(), 1);
-    drop(of_type);
+    drop(texts);
     assert_eq!(releases.get(), 2);
 }
 
@@ -85,9 +92,8 @@ fn each_owner_releases_once() {
 fn a_view_shows_the_array() {
     let releases = Releases::new(0);
     let mut buffers = texts(b"a\xc3\xa9xy");
-    let of_type = unsafe { Schema::from_raw(schema(&releases, c"u")) };
-    let owner = unsafe { Array::from_raw(array(&releases, 2, 1, &mut buffers)) };
-    let view = owner.check(&of_type).unwrap();
+    let owner = unsafe { Array::from_raw(array(&releases, 2, 1, &mut buffers), of_type(&releases, c"u")) };
+    let view = owner.check().unwrap();
     assert_eq!((view.len(), view.is_empty(), view.offset(), view.name()), (2, false, 1, Some(c"name")));
     let Bits { bytes, offset } = view.validity().unwrap();
     assert_eq!((bytes, offset), (&[0b101_u8][..], 1));
@@ -104,14 +110,16 @@ fn values_of_one_width_begin_at_the_first_item() {
     static PRICES: [i16; 3] = [30, 40, 50];
     let releases = Releases::new(0);
     let mut buffers = [ptr::null(), PRICES.as_ptr().cast()];
-    let of_type = unsafe { Schema::from_raw(schema(&releases, c"s")) };
-    let owner = unsafe { Array::from_raw(array(&releases, 2, 1, &mut buffers)) };
-    let view = owner.check(&of_type).unwrap();
+    let numbers = of_type(&releases, c"s");
+    let owner = unsafe { Array::from_raw(array(&releases, 2, 1, &mut buffers), Rc::clone(&numbers)) };
+    let view = owner.check().unwrap();
     assert_eq!(view.bytes(), Some(&[40, 0, 50, 0][..]));
-    assert!(owner.check_sized(&of_type, &[0, 6]).is_ok());
-    let rejected = owner.check_sized(&of_type, &[0, 5]).unwrap_err();
-    assert_eq!(rejected.broken, Broken::Part(Error::Range));
     assert!(view.validity().is_none() && view.offsets().is_none());
+    for (size, expected) in [(6, None), (5, Some(Broken::Part(Error::Range)))] {
+        let raw = array(&releases, 2, 1, &mut buffers);
+        let sized = unsafe { Array::from_raw_sized(raw, Rc::clone(&numbers), vec![0, size]) };
+        assert_eq!(sized.check().err().map(|rejected| rejected.broken), expected);
+    }
 }
 
 #[test]
@@ -119,12 +127,13 @@ fn of_no_item_no_offset_is_read() {
     let releases = Releases::new(0);
     let nowhere: *const c_void = ptr::without_provenance(1);
     let mut buffers = [ptr::null(), nowhere, ptr::null()];
-    let of_type = unsafe { Schema::from_raw(schema(&releases, c"u")) };
-    let owner = unsafe { Array::from_raw(array(&releases, 0, 2, &mut buffers)) };
-    let view = owner.check(&of_type).unwrap();
+    let texts = of_type(&releases, c"u");
+    let owner = unsafe { Array::from_raw(array(&releases, 0, 2, &mut buffers), Rc::clone(&texts)) };
+    let view = owner.check().unwrap();
     assert_eq!(view.offsets(), Some(Offsets::Narrow(&[0])));
     assert_eq!((view.bytes(), view.slot(0)), (Some(&[][..]), None));
-    assert_eq!(owner.check_sized(&of_type, &[0, 0, 0]).unwrap().offsets(), Some(Offsets::Narrow(&[0])));
+    let sized = unsafe { Array::from_raw_sized(owner.into_raw(), texts, vec![0; 3]) };
+    assert_eq!(sized.check().unwrap().offsets(), Some(Offsets::Narrow(&[0])));
 }
 
 #[test]
@@ -132,9 +141,8 @@ fn of_no_item_no_boolean_is_read() {
     let releases = Releases::new(0);
     let nowhere: *const c_void = ptr::without_provenance(1);
     let mut buffers = [ptr::null(), nowhere];
-    let of_type = unsafe { Schema::from_raw(schema(&releases, c"b")) };
-    let owner = unsafe { Array::from_raw(array(&releases, 0, 9, &mut buffers)) };
-    let view = owner.check(&of_type).unwrap();
+    let owner = unsafe { Array::from_raw(array(&releases, 0, 9, &mut buffers), of_type(&releases, c"b")) };
+    let view = owner.check().unwrap();
     let Bits { bytes, offset } = view.booleans().unwrap();
     assert_eq!((bytes, offset), (&[][..], 0));
     assert!(view.validity().is_none());
@@ -144,15 +152,20 @@ fn of_no_item_no_boolean_is_read() {
 fn what_is_rejected_has_no_view() {
     let releases = Releases::new(0);
     let mut buffers = texts(b"ab\xc3\xa9y");
-    let of_type = unsafe { Schema::from_raw(schema(&releases, c"u")) };
-    let owner = unsafe { Array::from_raw(array(&releases, 3, 0, &mut buffers)) };
-    let rejected = owner.check(&of_type).unwrap_err();
+    let owner = unsafe { Array::from_raw(array(&releases, 3, 0, &mut buffers), of_type(&releases, c"u")) };
+    let rejected = owner.check().unwrap_err();
     assert_eq!((rejected.broken, rejected.slot), (Broken::Part(Error::NotUtf8), Some(1)));
     assert_eq!(rejected.to_string(), "\"\": a text is not UTF-8 at slot 1");
 }
 
 unsafe extern "C" fn fail(_: *mut ArrowArrayStream, _: *mut ArrowSchema) -> c_int {
     5
+}
+
+unsafe extern "C" fn numbers(stream: *mut ArrowArrayStream, out: *mut ArrowSchema) -> c_int {
+    // SAFETY: the counter of the stream outlives it, and `out` is the caller's memory for a schema.
+    unsafe { out.write(schema(&*(*stream).private_data.cast::<Releases>(), c"s")) };
+    0
 }
 
 unsafe extern "C" fn last(_: *mut ArrowArrayStream, out: *mut ArrowArray) -> c_int {
@@ -171,20 +184,40 @@ unsafe extern "C" fn release_stream(stream: *mut ArrowArrayStream) {
     unsafe { (*stream).release = None };
 }
 
-#[test]
-fn a_stream_that_fails_says_why() {
-    let releases = Releases::new(0);
+fn stream(
+    releases: &Releases,
+    get_schema: unsafe extern "C" fn(*mut ArrowArrayStream, *mut ArrowSchema) -> c_int,
+) -> Stream {
     let raw = ArrowArrayStream {
-        get_schema: Some(fail),
+        get_schema: Some(get_schema),
         get_next: Some(last),
         get_last_error: Some(text),
         release: Some(release_stream),
-        private_data: ptr::from_ref(&releases).cast_mut().cast(),
+        private_data: ptr::from_ref(releases).cast_mut().cast(),
     };
-    let mut stream = unsafe { Stream::from_raw(raw) };
+    // SAFETY: the functions follow the interface.
+    unsafe { Stream::from_raw(raw) }
+}
+
+#[test]
+fn a_stream_that_fails_says_why() {
+    let releases = Releases::new(0);
+    let mut stream = stream(&releases, fail);
+    assert_eq!(stream.last_error(), None);
     assert_eq!(stream.schema().unwrap_err(), StreamError::Code(5));
     assert_eq!(stream.last_error(), Some(c"no schema"));
-    assert!(stream.next_batch().unwrap().is_none());
+    assert_eq!(stream.next_batch().unwrap_err(), StreamError::Code(5));
     drop(stream);
     assert_eq!(releases.get(), 1);
+}
+
+#[test]
+fn a_stream_takes_its_schema_once() {
+    let releases = Releases::new(0);
+    let mut stream = stream(&releases, numbers);
+    assert!(stream.next_batch().unwrap().is_none());
+    assert!(Rc::ptr_eq(&stream.schema().unwrap(), &stream.schema().unwrap()));
+    assert_eq!((stream.last_error(), releases.get()), (None, 0));
+    drop(stream);
+    assert_eq!(releases.get(), 2);
 }

@@ -60,7 +60,7 @@ pub struct ArrowArrayStream {
     pub get_schema: Option<unsafe extern "C" fn(*mut ArrowArrayStream, *mut ArrowSchema) -> c_int>,
     /// Writes the next array, or after the last one an array whose `release` is null. Returns 0 or an `errno`.
     pub get_next: Option<unsafe extern "C" fn(*mut ArrowArrayStream, *mut ArrowArray) -> c_int>,
-    /// The text of the last error, or null.
+    /// The text of the last error, or null. It may be called only if the last call returned an error.
     pub get_last_error: Option<unsafe extern "C" fn(*mut ArrowArrayStream) -> *const c_char>,
     /// Frees all that the struct holds; null once that was done.
     pub release: Option<unsafe extern "C" fn(*mut ArrowArrayStream)>,

@@ -194,9 +194,10 @@ fn of_slot(error: ErrorAt) -> Fault {
 ///
 /// # Safety
 ///
-/// Each pointer is null, or points to what the interface specifies. With `Some`, each buffer that is not null has at
-/// least as many bytes as its entry of `sizes`; with `None`, at least those that format, length, offset and last offset
-/// require.
+/// Each pointer is null, or points to what the interface specifies; of a struct that was released, this is required only
+/// of `release`, which is null. With `Some`, each buffer that is not null has at least as many bytes as its entry of
+/// `sizes`; with `None`, at least those that format, length, offset and last offset require. These bytes are
+/// initialised.
 pub unsafe fn check_raw(
     schema: *const ArrowSchema,
     array: *const ArrowArray,
@@ -226,13 +227,16 @@ struct Node {
 impl Node {
     /// Whether its pointers and numbers can be read at all.
     unsafe fn check_head(self) -> Result<(), Broken> {
-        // SAFETY: the caller's.
-        let (Some(schema), Some(array)) = (unsafe { (self.schema.as_ref(), self.array.as_ref()) }) else {
+        if self.schema.is_null() || self.array.is_null() {
             return Err(Broken::Null);
-        };
-        if schema.release.is_none() || array.release.is_none() {
+        }
+        // SAFETY: the caller's. Of a struct that was released, only `release` may be initialised: so there is no reference
+        // to the struct before this test.
+        if unsafe { (*self.schema).release.is_none() || (*self.array).release.is_none() } {
             return Err(Broken::Released);
         }
+        // SAFETY: the caller's.
+        let (schema, array) = unsafe { (&*self.schema, &*self.array) };
         if schema.format.is_null() {
             return Err(Broken::Null);
         }

@@ -3,95 +3,149 @@
 use super::abi::{ArrowArray, ArrowArrayStream, ArrowSchema};
 use super::check::{Rejected, check_raw};
 use super::view::View;
+use alloc::rc::Rc;
+use alloc::vec::Vec;
 use core::ffi::{CStr, c_int};
 use core::mem::{ManuallyDrop, MaybeUninit};
 use core::ptr;
 
-/// An owner of one struct of the interface.
-macro_rules! owner {
-    ($(#[$doc:meta])* $name:ident, $raw:ident) => {
-        $(#[$doc])*
-        #[derive(Debug)]
-        pub struct $name($raw);
+/// A struct of the interface.
+trait Raw {
+    /// Releases the struct, unless it was released before.
+    ///
+    /// # Safety
+    ///
+    /// The struct follows the interface, and nobody else releases it.
+    unsafe fn release(&mut self);
+}
 
-        impl $name {
-            /// Takes over a raw struct.
-            ///
-            /// # Safety
-            ///
-            /// The struct follows the interface, and so does each schema and array that a stream returns. Pointers that
-            /// are not null point to data as the specification requires. Each buffer has the bytes that format, length,
-            /// offset and last offset require. Nothing is written to this data while the owner lives, except by the
-            /// calls of a stream to the stream itself. Nobody else releases the struct.
-            #[must_use]
-            pub unsafe fn from_raw(raw: $raw) -> Self {
-                $name(raw)
-            }
-
-            /// Returns the raw struct.
-            #[must_use]
-            pub fn as_raw(&self) -> &$raw {
-                &self.0
-            }
-
-            /// Returns the raw struct without releasing it: then the caller must release it.
-            #[must_use]
-            pub fn into_raw(self) -> $raw {
-                let kept = ManuallyDrop::new(self);
-                // SAFETY: the owner is not dropped, so there is one owner of it still.
-                unsafe { ptr::read(&kept.0) }
-            }
-        }
-
-        impl Drop for $name {
-            fn drop(&mut self) {
-                if let Some(release) = self.0.release {
-                    // SAFETY: it was not released, since its `release` is there, and this owner is the only one.
-                    unsafe { release(&mut self.0) }
+/// `Raw` of the structs of these names.
+macro_rules! raw {
+    ($($name:ident),*) => {
+        $(impl Raw for $name {
+            unsafe fn release(&mut self) {
+                if let Some(release) = self.release {
+                    // SAFETY: it was not released, since its `release` is there; the rest is the caller's.
+                    unsafe { release(self) }
                 }
             }
-        }
+        })*
     };
 }
 
-owner!(
-    /// The type of arrays.
-    Schema, ArrowSchema
-);
-owner!(
-    /// An array.
-    Array, ArrowArray
-);
-owner!(
-    /// Arrays of one schema, one after the other.
-    Stream, ArrowArrayStream
-);
+raw!(ArrowSchema, ArrowArray, ArrowArrayStream);
 
-impl Array {
-    /// Checks whether the array matches the schema, and returns a view of it.
+/// The only owner of a struct, which follows the interface.
+#[derive(Debug)]
+struct Owned<T: Raw>(T);
+
+impl<T: Raw> Owned<T> {
+    /// Returns the struct without releasing it.
+    fn into_raw(self) -> T {
+        let kept = ManuallyDrop::new(self);
+        // SAFETY: the owner is not dropped, so there is one owner of it still.
+        unsafe { ptr::read(&kept.0) }
+    }
+}
+
+impl<T: Raw> Drop for Owned<T> {
+    fn drop(&mut self) {
+        // SAFETY: this owner is the only one.
+        unsafe { self.0.release() }
+    }
+}
+
+/// The type of arrays.
+#[derive(Debug)]
+pub struct Schema(Owned<ArrowSchema>);
+
+impl Schema {
+    /// Takes over a raw struct.
     ///
-    /// # Errors
+    /// # Safety
     ///
-    /// The first rule that the array breaks, and where.
-    pub fn check<'a>(&'a self, schema: &'a Schema) -> Result<View<'a>, Rejected> {
-        // SAFETY: both owners follow the interface, as their `from_raw` requires.
-        unsafe {
-            check_raw(&schema.0, &self.0, None)?;
-            Ok(View::new(&schema.0, &self.0))
-        }
+    /// The struct follows the interface: each pointer that is not null points to what the specification requires.
+    /// Nothing is written to this data while the owner lives. Nobody else releases the struct.
+    #[must_use]
+    pub unsafe fn from_raw(raw: ArrowSchema) -> Self {
+        Schema(Owned(raw))
     }
 
-    /// The same as [`Array::check`], with the sizes of all buffers in bytes, in the order of [`check_raw`]. Nothing
-    /// outside these sizes is read.
+    /// Returns the raw struct.
+    #[must_use]
+    pub fn as_raw(&self) -> &ArrowSchema {
+        &self.0.0
+    }
+
+    /// Returns the raw struct without releasing it: then the caller must release it.
+    #[must_use]
+    pub fn into_raw(self) -> ArrowSchema {
+        self.0.into_raw()
+    }
+}
+
+/// An array, together with its schema.
+#[derive(Debug)]
+pub struct Array {
+    raw: Owned<ArrowArray>,
+    schema: Rc<Schema>,
+    sizes: Option<Vec<usize>>,
+}
+
+impl Array {
+    /// Takes over a raw struct. The array is checked against `schema`, so this must be the schema of the array.
+    ///
+    /// # Safety
+    ///
+    /// The struct follows the interface: each pointer that is not null points to what the specification requires. Each
+    /// buffer has at least the bytes that the format of `schema`, length, offset and last offset require, and these
+    /// bytes are initialised. Nothing is written to this data while the owner lives. Nobody else releases the struct.
+    #[must_use]
+    pub unsafe fn from_raw(raw: ArrowArray, schema: Rc<Schema>) -> Self {
+        Array { raw: Owned(raw), schema, sizes: None }
+    }
+
+    /// Takes over a raw struct whose buffers have these sizes in bytes, in the order of [`check_raw`]. The check finds
+    /// buffers that are too short for the format of `schema`, and reads nothing outside these sizes.
+    ///
+    /// # Safety
+    ///
+    /// As of [`Array::from_raw`], but of the buffers this is required: each that is not null has at least as many bytes
+    /// as its entry of `sizes`, all initialised. If `sizes` has too few or too many entries, the check rejects the array.
+    #[must_use]
+    pub unsafe fn from_raw_sized(raw: ArrowArray, schema: Rc<Schema>, sizes: Vec<usize>) -> Self {
+        Array { raw: Owned(raw), schema, sizes: Some(sizes) }
+    }
+
+    /// Returns the schema.
+    #[must_use]
+    pub fn schema(&self) -> &Rc<Schema> {
+        &self.schema
+    }
+
+    /// Returns the raw struct.
+    #[must_use]
+    pub fn as_raw(&self) -> &ArrowArray {
+        &self.raw.0
+    }
+
+    /// Returns the raw struct without releasing it: then the caller must release it.
+    #[must_use]
+    pub fn into_raw(self) -> ArrowArray {
+        self.raw.into_raw()
+    }
+
+    /// Checks whether the array matches its schema, and returns a view of it.
     ///
     /// # Errors
     ///
     /// The first rule that the array breaks, and where.
-    pub fn check_sized<'a>(&'a self, schema: &'a Schema, sizes: &[usize]) -> Result<View<'a>, Rejected> {
-        // SAFETY: as of `check`.
+    pub fn check(&self) -> Result<View<'_>, Rejected> {
+        let (schema, array) = (self.schema.as_raw(), self.as_raw());
+        // SAFETY: `from_raw` and `from_raw_sized` require of both structs, and of the sizes, what `check_raw` does.
         unsafe {
-            check_raw(&schema.0, &self.0, Some(sizes))?;
-            Ok(View::new(&schema.0, &self.0))
+            check_raw(schema, array, self.sizes.as_deref())?;
+            Ok(View::new(schema, array))
         }
     }
 }
@@ -116,49 +170,99 @@ impl core::fmt::Display for StreamError {
 
 impl core::error::Error for StreamError {}
 
+/// Arrays of one schema, one after the other.
+#[derive(Debug)]
+pub struct Stream {
+    raw: Owned<ArrowArrayStream>,
+    /// The schema, once the stream has returned it.
+    schema: Option<Rc<Schema>>,
+    /// Whether the last call of the stream returned an error.
+    failed: bool,
+}
+
 impl Stream {
-    /// The schema of its arrays.
+    /// Takes over a raw struct.
+    ///
+    /// # Safety
+    ///
+    /// The struct follows the interface. The schema that it returns follows the interface, as [`Schema::from_raw`]
+    /// requires, and so does each array, as [`Array::from_raw`] requires with this schema. Nothing is written to their
+    /// data while the stream or an array lives, except by the calls of the stream to the stream itself. Nobody else
+    /// releases the struct.
+    #[must_use]
+    pub unsafe fn from_raw(raw: ArrowArrayStream) -> Self {
+        Stream { raw: Owned(raw), schema: None, failed: false }
+    }
+
+    /// Returns the raw struct.
+    #[must_use]
+    pub fn as_raw(&self) -> &ArrowArrayStream {
+        &self.raw.0
+    }
+
+    /// Returns the raw struct without releasing it: then the caller must release it.
+    #[must_use]
+    pub fn into_raw(self) -> ArrowArrayStream {
+        self.raw.into_raw()
+    }
+
+    /// Returns the schema of its arrays. The first call takes it from the stream, later calls return it again.
     ///
     /// # Errors
     ///
     /// [`StreamError::Released`], or the code that the stream returns.
-    pub fn schema(&mut self) -> Result<Schema, StreamError> {
-        let get = self.0.get_schema.filter(|_| self.0.release.is_some()).ok_or(StreamError::Released)?;
+    pub fn schema(&mut self) -> Result<Rc<Schema>, StreamError> {
+        if let Some(schema) = &self.schema {
+            return Ok(Rc::clone(schema));
+        }
+        let get = self.call(self.raw.0.get_schema)?;
         let mut out = MaybeUninit::zeroed();
         // SAFETY: the stream is not released, and the call writes a schema where it returns 0.
-        match unsafe { get(&mut self.0, out.as_mut_ptr()) } {
-            // SAFETY: the stream's arrays and schemas follow the interface, as `from_raw` requires.
-            0 => Ok(unsafe { Schema::from_raw(out.assume_init()) }),
-            code => Err(StreamError::Code(code)),
-        }
+        let code = unsafe { get(&mut self.raw.0, out.as_mut_ptr()) };
+        self.succeeds(code)?;
+        // SAFETY: the schema follows the interface, as `from_raw` requires.
+        let schema = Rc::new(unsafe { Schema::from_raw(out.assume_init()) });
+        Ok(Rc::clone(self.schema.insert(schema)))
     }
 
-    /// Returns the next array, or `None` after the last one.
+    /// Returns the next array, or `None` after the last one. If the schema was not taken yet, takes it first.
     ///
     /// # Errors
     ///
     /// [`StreamError::Released`], or the code that the stream returns.
     pub fn next_batch(&mut self) -> Result<Option<Array>, StreamError> {
-        let get = self.0.get_next.filter(|_| self.0.release.is_some()).ok_or(StreamError::Released)?;
+        let schema = self.schema()?;
+        let get = self.call(self.raw.0.get_next)?;
         let mut out = MaybeUninit::zeroed();
         // SAFETY: the stream is not released, and the call writes an array where it returns 0.
-        match unsafe { get(&mut self.0, out.as_mut_ptr()) } {
-            0 => {
-                // SAFETY: as above; after the last array it wrote one that is released, which an owner leaves alone.
-                let array = unsafe { Array::from_raw(out.assume_init()) };
-                Ok(array.as_raw().release.is_some().then_some(array))
-            }
-            code => Err(StreamError::Code(code)),
+        let code = unsafe { get(&mut self.raw.0, out.as_mut_ptr()) };
+        self.succeeds(code)?;
+        // SAFETY: the array follows the interface, and the schema is its own, as `from_raw` requires. After the last
+        // array the stream wrote one that is released, which an owner leaves alone.
+        let array = unsafe { Array::from_raw(out.assume_init(), schema) };
+        Ok(array.as_raw().release.is_some().then_some(array))
+    }
+
+    /// Returns the text of the last error, if the last call of the stream returned an error and the stream has a text.
+    pub fn last_error(&mut self) -> Option<&CStr> {
+        let get = self.raw.0.get_last_error.filter(|_| self.failed && self.raw.0.release.is_some())?;
+        // SAFETY: the stream is not released, and its last call returned an error; the text lives until the next call,
+        // which takes the stream again.
+        unsafe {
+            let text = get(&mut self.raw.0);
+            (!text.is_null()).then(|| CStr::from_ptr(text))
         }
     }
 
-    /// The text of the last error, if the stream has one.
-    pub fn last_error(&mut self) -> Option<&CStr> {
-        let get = self.0.get_last_error.filter(|_| self.0.release.is_some())?;
-        // SAFETY: the stream is not released; the text lives until the next call, which takes the stream again.
-        unsafe {
-            let text = get(&mut self.0);
-            (!text.is_null()).then(|| CStr::from_ptr(text))
-        }
+    /// Returns a function of the stream, if the stream has it and is not released.
+    fn call<F>(&mut self, function: Option<F>) -> Result<F, StreamError> {
+        self.failed = false;
+        function.filter(|_| self.raw.0.release.is_some()).ok_or(StreamError::Released)
+    }
+
+    /// Keeps whether a call of the stream returned an error.
+    fn succeeds(&mut self, code: c_int) -> Result<(), StreamError> {
+        self.failed = code != 0;
+        if self.failed { Err(StreamError::Code(code)) } else { Ok(()) }
     }
 }
