@@ -58,7 +58,8 @@ pub fn from_rows<S: WordRows<u64>, F: Fn(S::Row) -> u64>(
     ensures table { (t : ℕ) (lists : List (List Bool)) →
         IsBitwiseOnRows 64 S.words (λ x. x) (F.post op) t → AreRowsOf 64 lists (S.row_at rows) len →
         IfOk result (λ b. items_of b ≡ each t lists) }
-    // For any `op`: the word at each index is one that `op` may return for the row at this index.
+    // For any `op`: the word at each index is one that `op` may return for some row with the words of the row at this
+    // index.
     ensures results { IfOk result (λ b. AreJoinedResults 64 len
         (λ j. MayReturnRow 64 S.words (λ x. x) (F.post op) (S.row_at rows j)) (items_of b)) }
     // The new bitmap is stored in canonical bytes, and the only error is `OutOfMemory`.

@@ -67,7 +67,7 @@ impl Iterator for IntoIter {
     /// Returns the number of items still to come as both bounds.
     fn size_hint(&self) -> (usize, Option<usize>)
         ensures exact { (result.0 ≡ length self.now) × (result.1 ≡ Some (length self.now)) }
-        // The trait requires these two, which follow.
+        // The trait requires these two clauses. Both follow from `exact`.
         ensures lower { IsWithinCount result.0 (item_count (λ s. s) self.now) }
         ensures upper { IfSome result.1 (UpTo (item_count (λ s. s) self.now)) }
     {

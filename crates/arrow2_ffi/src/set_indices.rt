@@ -76,13 +76,15 @@ fn write_indices(bits: Bits<'_>, end: usize, at: usize, indices: &mut [usize]) -
 fn write_ones(word: u64, base: usize, count: usize, indices: &mut [usize]) -> (usize, Option<usize>)
     requires few { count ≤ length indices.old }
     requires fit { All (λ index. index < 2 ^ 64) (map (λ k. base + k) (ones (unnum 64 word))) }
-    // `result.0` is how many indices there are after the call, and `indices` has no more.
+    // `indices` keeps its length, which is at least `result.0`: its first `result.0` items are indices after the call.
     ensures size { length indices.new ≡ length indices.old }
     ensures few { result.0 ≤ length indices.old }
-    // `None`: `base` plus each set bit of the word comes after the first `count` indices.
+    // `None`: all indices fitted. These items are the first `count` items of before, then `base + k` for the index `k`
+    // of each set bit of the word, rising.
     ensures all { IfNone result.1 (take result.0 indices.new
         ≡ take count indices.old ++ map (λ k. base + k) (ones (unnum 64 word))) }
-    // `Some(next)`: `indices` is full, `next` is the first index that did not fit, and `others` are those after it.
+    // `Some(next)`: `indices` is full. Its items, then `next`, then some `others` are the same list: `next` is the
+    // first index that did not fit, and `others` are those after it.
     ensures next { IfSome result.1 (λ next. (result.0 ≡ length indices.old)
         × (others : List ℕ) × (take result.0 indices.new ++ next ∷ others
         ≡ take count indices.old ++ map (λ k. base + k) (ones (unnum 64 word)))) }

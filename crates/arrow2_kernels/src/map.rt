@@ -35,7 +35,8 @@ pub fn write_rows<S: WordRows<u64>, F: Fn(S::Row) -> u64>(
     ensures table { (t : ℕ) (lists : List (List Bool)) →
         IsBitwiseOnRows 64 S.words (λ x. x) (F.post op) t → AreRowsOf 64 lists (S.row_at rows) len →
         take len (bits bytes.new) ≡ each t lists }
-    // For any `op`: the word at each index is one that `op` may return for the row at this index.
+    // For any `op`: the word at each index is one that `op` may return for some row with the words of the row at this
+    // index.
     ensures results { AreJoinedResults 64 len (λ j. MayReturnRow 64 S.words (λ x. x) (F.post op) (S.row_at rows j))
         (take len (bits bytes.new)) }
 {

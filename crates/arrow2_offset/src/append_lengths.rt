@@ -72,9 +72,9 @@ fn append_sums<O: Offset, I: Iterator<Item = usize> + Drop>(
     ensures front { take (length offsets.items) result.0.items ≡ offsets.items }
     ensures ok { OnOk result.1 (WholeRun I.next_gives lengths (λ p.
         LengthenedBy p.items (map O.value offsets.items) (map O.value result.0.items))) }
-    // `Overflow` comes only where the last offset plus the sum of the lengths may pass `O::MAX`; `OutOfMemory` only
-    // where the number of lengths may exceed the spare capacity: the capacity in lengths, which is one less than that
-    // of the vector, minus the number of lengths that are there.
+    // `Overflow` comes only where the iterator may yield lengths whose sum plus the last offset passes `O::MAX`,
+    // `OutOfMemory` only where it may yield more lengths than still fit in the old vector. A vector of capacity c fits
+    // c - 1 lengths; those that it already holds are subtracted.
     ensures overflow { IsErrOf result.1 growth_error.Overflow →
         MayYieldPast O.MAX (last_of (map O.value offsets.items)) I.next_gives lengths }
     ensures out_of_memory { IsErrOf result.1 growth_error.OutOfMemory →
