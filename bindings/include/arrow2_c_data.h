@@ -125,12 +125,17 @@ static inline uint32_t arrow2_bits_null_count(struct arrow2_bits validity, size_
     return arrow2_count_zeros(validity.bytes, validity.bytes_len, validity.offset, length, nulls);
 }
 
-/* Writes to `*equal` whether the `length` bits of both are the same. Calls arrow2_equal_bits. NULL `bytes` counts as 0
- * bytes here, not as a missing validity. */
+/* Writes to `*equal` whether the `length` bits of both are the same. Calls arrow2_equal_bits; `*equal` need not be set
+ * before. NULL `bytes` counts as 0 bytes here, not as a missing validity. */
 static inline uint32_t arrow2_bits_equal(struct arrow2_bits left, struct arrow2_bits right, size_t length,
                                          bool *equal) {
-    return arrow2_equal_bits(left.bytes, arrow2_c_count(left.bytes, left.bytes_len), left.offset, right.bytes,
-                             arrow2_c_count(right.bytes, right.bytes_len), right.offset, length, equal);
+    bool same = false;
+    uint32_t code = arrow2_equal_bits(left.bytes, arrow2_c_count(left.bytes, left.bytes_len), left.offset, right.bytes,
+                                      arrow2_c_count(right.bytes, right.bytes_len), right.offset, length, &same);
+    if (code == ARROW2_OK) {
+        *equal = same;
+    }
+    return code;
 }
 
 /* For each i below `length`, where l is bit i of `left` and r is bit i of `right`, writes bit l + 2 * r of `table` to

@@ -168,9 +168,19 @@ unsafe extern "C" fn numbers(stream: *mut ArrowArrayStream, out: *mut ArrowSchem
     0
 }
 
-unsafe extern "C" fn last(_: *mut ArrowArrayStream, out: *mut ArrowArray) -> c_int {
-    // SAFETY: the caller's memory for an array, which is all zero.
+unsafe extern "C" fn released(_: *mut ArrowArrayStream, out: *mut ArrowSchema) -> c_int {
+    // SAFETY: the caller's memory for a schema.
     unsafe { (*out).release = None };
+    0
+}
+
+/// Writes that there is no array, and breaks the stream: it must not be called again.
+unsafe extern "C" fn last(stream: *mut ArrowArrayStream, out: *mut ArrowArray) -> c_int {
+    // SAFETY: the caller's stream, and its memory for an array.
+    unsafe {
+        (*stream).get_next = None;
+        (*out).release = None;
+    }
     0
 }
 
@@ -212,9 +222,18 @@ fn a_stream_that_fails_says_why() {
 }
 
 #[test]
+fn a_stream_without_a_schema_has_no_arrays() {
+    let releases = Releases::new(0);
+    let mut stream = stream(&releases, released);
+    assert_eq!(stream.schema().unwrap_err(), StreamError::Released);
+    assert_eq!((stream.next_batch().unwrap_err(), stream.last_error()), (StreamError::Released, None));
+}
+
+#[test]
 fn a_stream_takes_its_schema_once() {
     let releases = Releases::new(0);
     let mut stream = stream(&releases, numbers);
+    assert!(stream.next_batch().unwrap().is_none());
     assert!(stream.next_batch().unwrap().is_none());
     assert!(Rc::ptr_eq(&stream.schema().unwrap(), &stream.schema().unwrap()));
     assert_eq!((stream.last_error(), releases.get()), (None, 0));

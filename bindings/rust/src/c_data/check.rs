@@ -197,7 +197,8 @@ fn of_slot(error: ErrorAt) -> Fault {
 /// Each pointer is null, or points to what the interface specifies; of a struct that was released, this is required only
 /// of `release`, which is null. With `Some`, each buffer that is not null has at least as many bytes as its entry of
 /// `sizes`; with `None`, at least those that format, length, offset and last offset require. These bytes are
-/// initialised.
+/// initialised. The buffers that `docs/BINDINGS.md` lists as never read may be anything. Nothing is written to this data
+/// during the call.
 pub unsafe fn check_raw(
     schema: *const ArrowSchema,
     array: *const ArrowArray,

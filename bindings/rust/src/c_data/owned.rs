@@ -99,7 +99,8 @@ impl Array {
     ///
     /// The struct follows the interface: each pointer that is not null points to what the specification requires. Each
     /// buffer has at least the bytes that the format of `schema`, length, offset and last offset require, and these
-    /// bytes are initialised. Nothing is written to this data while the owner lives. Nobody else releases the struct.
+    /// bytes are initialised. The buffers that `docs/BINDINGS.md` lists as never read may be anything. Nothing is
+    /// written to this data while the owner lives. Nobody else releases the struct.
     #[must_use]
     pub unsafe fn from_raw(raw: ArrowArray, schema: Rc<Schema>) -> Self {
         Array { raw: Owned(raw), schema, sizes: None }
@@ -153,7 +154,7 @@ impl Array {
 /// The error of a stream that returns no schema or array.
 #[derive(Clone, Copy, Debug, PartialEq, Eq)]
 pub enum StreamError {
-    /// The stream was released, or lacks a function.
+    /// The stream was released, lacks a function, or returned a schema that was released.
     Released,
     /// An `errno`; [`Stream::last_error`] may have a text.
     Code(c_int),
@@ -162,7 +163,9 @@ pub enum StreamError {
 impl core::fmt::Display for StreamError {
     fn fmt(&self, f: &mut core::fmt::Formatter<'_>) -> core::fmt::Result {
         match self {
-            StreamError::Released => f.write_str("the stream was released, or lacks a function"),
+            StreamError::Released => {
+                f.write_str("the stream was released, lacks a function, or returned a released schema")
+            }
             StreamError::Code(code) => write!(f, "the stream returned code {code}"),
         }
     }
@@ -176,8 +179,10 @@ pub struct Stream {
     raw: Owned<ArrowArrayStream>,
     /// The schema, once the stream has returned it.
     schema: Option<Rc<Schema>>,
-    /// Whether the last call of the stream returned an error.
+    /// Whether the last function of the stream that was called returned an error.
     failed: bool,
+    /// Whether the last array was returned.
+    ended: bool,
 }
 
 impl Stream {
@@ -191,7 +196,7 @@ impl Stream {
     /// releases the struct.
     #[must_use]
     pub unsafe fn from_raw(raw: ArrowArrayStream) -> Self {
-        Stream { raw: Owned(raw), schema: None, failed: false }
+        Stream { raw: Owned(raw), schema: None, failed: false, ended: false }
     }
 
     /// Returns the raw struct.
@@ -216,38 +221,51 @@ impl Stream {
             return Ok(Rc::clone(schema));
         }
         let get = self.call(self.raw.0.get_schema)?;
-        let mut out = MaybeUninit::zeroed();
+        let mut out = MaybeUninit::<ArrowSchema>::zeroed();
         // SAFETY: the stream is not released, and the call writes a schema where it returns 0.
         let code = unsafe { get(&mut self.raw.0, out.as_mut_ptr()) };
         self.succeeds(code)?;
+        // SAFETY: of a schema that was released, only `release` may be initialised, which is read alone.
+        if unsafe { (*out.as_ptr()).release.is_none() } {
+            return Err(StreamError::Released);
+        }
         // SAFETY: the schema follows the interface, as `from_raw` requires.
         let schema = Rc::new(unsafe { Schema::from_raw(out.assume_init()) });
         Ok(Rc::clone(self.schema.insert(schema)))
     }
 
-    /// Returns the next array, or `None` after the last one. If the schema was not taken yet, takes it first.
+    /// Returns the next array, or `None` after the last one, also if it is called again. If the schema was not taken
+    /// yet, takes it first. It may be called again after an error: then the stream decides what comes.
     ///
     /// # Errors
     ///
     /// [`StreamError::Released`], or the code that the stream returns.
     pub fn next_batch(&mut self) -> Result<Option<Array>, StreamError> {
+        if self.ended {
+            return Ok(None);
+        }
         let schema = self.schema()?;
         let get = self.call(self.raw.0.get_next)?;
-        let mut out = MaybeUninit::zeroed();
+        let mut out = MaybeUninit::<ArrowArray>::zeroed();
         // SAFETY: the stream is not released, and the call writes an array where it returns 0.
         let code = unsafe { get(&mut self.raw.0, out.as_mut_ptr()) };
         self.succeeds(code)?;
-        // SAFETY: the array follows the interface, and the schema is its own, as `from_raw` requires. After the last
-        // array the stream wrote one that is released, which an owner leaves alone.
-        let array = unsafe { Array::from_raw(out.assume_init(), schema) };
-        Ok(array.as_raw().release.is_some().then_some(array))
+        // SAFETY: after the last array the stream wrote one that is released. Of that one only `release` may be
+        // initialised, which is read alone.
+        if unsafe { (*out.as_ptr()).release.is_none() } {
+            self.ended = true;
+            return Ok(None);
+        }
+        // SAFETY: the array follows the interface, and the schema is its own, as `from_raw` requires.
+        Ok(Some(unsafe { Array::from_raw(out.assume_init(), schema) }))
     }
 
-    /// Returns the text of the last error, if the last call of the stream returned an error and the stream has a text.
+    /// Returns the text of the last error, if the last `get_schema` or `get_next` of the stream returned an error and the
+    /// stream has a text.
     pub fn last_error(&mut self) -> Option<&CStr> {
         let get = self.raw.0.get_last_error.filter(|_| self.failed && self.raw.0.release.is_some())?;
-        // SAFETY: the stream is not released, and its last call returned an error; the text lives until the next call,
-        // which takes the stream again.
+        // SAFETY: the stream is not released, and its last function returned an error; the text lives until the next
+        // call, which takes the stream again.
         unsafe {
             let text = get(&mut self.raw.0);
             (!text.is_null()).then(|| CStr::from_ptr(text))
