@@ -194,11 +194,11 @@ fn of_slot(error: ErrorAt) -> Fault {
 ///
 /// # Safety
 ///
-/// Each pointer is null, or points to what the interface specifies; of a struct that was released, this is required only
-/// of `release`, which is null. With `Some`, each buffer that is not null has at least as many bytes as its entry of
-/// `sizes`; with `None`, at least those that format, length, offset and last offset require. These bytes are
-/// initialised. The buffers that `docs/BINDINGS.md` lists as never read may be anything. Nothing is written to this data
-/// during the call.
+/// Each pointer is null, or points to what the interface specifies; of a struct that was released, this is required
+/// only of `release`, which is null. With `Some`, each buffer that is not null has at least as many bytes as its entry
+/// of `sizes`; with `None`, at least those that format, length, offset and last offset require. These bytes are
+/// initialised. The buffers that `docs/BINDINGS.md` lists as never read may be anything. Nothing is written to this
+/// data during the call.
 pub unsafe fn check_raw(
     schema: *const ArrowSchema,
     array: *const ArrowArray,
@@ -231,8 +231,8 @@ impl Node {
         if self.schema.is_null() || self.array.is_null() {
             return Err(Broken::Null);
         }
-        // SAFETY: the caller's. Of a struct that was released, only `release` may be initialised: so there is no reference
-        // to the struct before this test.
+        // SAFETY: the caller's. Of a struct that was released, only `release` may be initialised: so there is no
+        // reference to the struct before this test.
         if unsafe { (*self.schema).release.is_none() || (*self.array).release.is_none() } {
             return Err(Broken::Released);
         }

@@ -112,7 +112,8 @@ impl Array {
     /// # Safety
     ///
     /// As of [`Array::from_raw`], but of the buffers this is required: each that is not null has at least as many bytes
-    /// as its entry of `sizes`, all initialised. If `sizes` has too few or too many entries, the check rejects the array.
+    /// as its entry of `sizes`, all initialised. If `sizes` has too few or too many entries, the check rejects the
+    /// array.
     #[must_use]
     pub unsafe fn from_raw_sized(raw: ArrowArray, schema: Rc<Schema>, sizes: Vec<usize>) -> Self {
         Array { raw: Owned(raw), schema, sizes: Some(sizes) }
@@ -260,8 +261,8 @@ impl Stream {
         Ok(Some(unsafe { Array::from_raw(out.assume_init(), schema) }))
     }
 
-    /// Returns the text of the last error, if the last `get_schema` or `get_next` of the stream returned an error and the
-    /// stream has a text.
+    /// Returns the text of the last error, if the last `get_schema` or `get_next` of the stream returned an error and
+    /// the stream has a text.
     pub fn last_error(&mut self) -> Option<&CStr> {
         let get = self.raw.0.get_last_error.filter(|_| self.failed && self.raw.0.release.is_some())?;
         // SAFETY: the stream is not released, and its last function returned an error; the text lives until the next
