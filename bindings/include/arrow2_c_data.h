@@ -203,31 +203,31 @@ static inline uint32_t arrow2_bits_and_validity(struct arrow2_bits left, struct 
  * bitmap. `values` and `validity` get the result. Each has arrow2_bytes_for(length) bytes; `values_len` and
  * `validity_len` must both be this number. Both outputs are written, also where neither column has a validity. A NULL
  * output counts as 0 bytes, so it has the wrong size unless `length` is 0.
- * ARROW2_RANGE: the bits of `left`, of `right` or of a validity that was passed are not inside their bytes. Else
+ * ARROW2_RANGE: the bits of `lhs`, of `rhs` or of a validity that was passed are not inside their bytes. Else
  * ARROW2_LENGTH: `values` or `validity` has the wrong size. */
-static inline uint32_t arrow2_bits_and_kleene(struct arrow2_bits left, struct arrow2_bits left_validity,
-                                              struct arrow2_bits right, struct arrow2_bits right_validity,
+static inline uint32_t arrow2_bits_and_kleene(struct arrow2_bits lhs, struct arrow2_bits lhs_validity,
+                                              struct arrow2_bits rhs, struct arrow2_bits rhs_validity,
                                               size_t length, uint8_t *values, size_t values_len, uint8_t *validity,
                                               size_t validity_len) {
     return arrow2_and_kleene_optional(
-        left.bytes, arrow2_c_count(left.bytes, left.bytes_len), left.offset, left_validity.bytes,
-        arrow2_c_count(left_validity.bytes, left_validity.bytes_len), left_validity.offset, !left_validity.bytes,
-        right.bytes, arrow2_c_count(right.bytes, right.bytes_len), right.offset, right_validity.bytes,
-        arrow2_c_count(right_validity.bytes, right_validity.bytes_len), right_validity.offset, !right_validity.bytes,
+        lhs.bytes, arrow2_c_count(lhs.bytes, lhs.bytes_len), lhs.offset, lhs_validity.bytes,
+        arrow2_c_count(lhs_validity.bytes, lhs_validity.bytes_len), lhs_validity.offset, !lhs_validity.bytes,
+        rhs.bytes, arrow2_c_count(rhs.bytes, rhs.bytes_len), rhs.offset, rhs_validity.bytes,
+        arrow2_c_count(rhs_validity.bytes, rhs_validity.bytes_len), rhs_validity.offset, !rhs_validity.bytes,
         length, values, arrow2_c_count(values, values_len), validity, arrow2_c_count(validity, validity_len));
 }
 
 /* Computes Kleene's OR of two boolean columns. Calls arrow2_or_kleene_optional. The arguments are those of
  * arrow2_bits_and_kleene. */
-static inline uint32_t arrow2_bits_or_kleene(struct arrow2_bits left, struct arrow2_bits left_validity,
-                                             struct arrow2_bits right, struct arrow2_bits right_validity, size_t length,
+static inline uint32_t arrow2_bits_or_kleene(struct arrow2_bits lhs, struct arrow2_bits lhs_validity,
+                                             struct arrow2_bits rhs, struct arrow2_bits rhs_validity, size_t length,
                                              uint8_t *values, size_t values_len, uint8_t *validity,
                                              size_t validity_len) {
     return arrow2_or_kleene_optional(
-        left.bytes, arrow2_c_count(left.bytes, left.bytes_len), left.offset, left_validity.bytes,
-        arrow2_c_count(left_validity.bytes, left_validity.bytes_len), left_validity.offset, !left_validity.bytes,
-        right.bytes, arrow2_c_count(right.bytes, right.bytes_len), right.offset, right_validity.bytes,
-        arrow2_c_count(right_validity.bytes, right_validity.bytes_len), right_validity.offset, !right_validity.bytes,
+        lhs.bytes, arrow2_c_count(lhs.bytes, lhs.bytes_len), lhs.offset, lhs_validity.bytes,
+        arrow2_c_count(lhs_validity.bytes, lhs_validity.bytes_len), lhs_validity.offset, !lhs_validity.bytes,
+        rhs.bytes, arrow2_c_count(rhs.bytes, rhs.bytes_len), rhs.offset, rhs_validity.bytes,
+        arrow2_c_count(rhs_validity.bytes, rhs_validity.bytes_len), rhs_validity.offset, !rhs_validity.bytes,
         length, values, arrow2_c_count(values, values_len), validity, arrow2_c_count(validity, validity_len));
 }
 

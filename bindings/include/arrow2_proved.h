@@ -168,35 +168,33 @@ uint32_t arrow2_quaternary_assign_table(uint8_t *bytes, size_t bytes_len, const 
  * ARROW2_LENGTH: `values` or `validity` has the wrong size. */
 
 /* AND: false where either is false, else null where either is null, else true. */
-uint32_t arrow2_and_kleene(const uint8_t *left, size_t left_len, size_t left_offset, const uint8_t *left_validity,
-                           size_t left_validity_len, size_t left_validity_offset, const uint8_t *right,
-                           size_t right_len, size_t right_offset, const uint8_t *right_validity,
-                           size_t right_validity_len, size_t right_validity_offset, size_t length, uint8_t *values,
-                           size_t values_len, uint8_t *validity, size_t validity_len);
+uint32_t arrow2_and_kleene(const uint8_t *lhs, size_t lhs_len, size_t lhs_offset, const uint8_t *lhs_validity,
+                           size_t lhs_validity_len, size_t lhs_validity_offset, const uint8_t *rhs, size_t rhs_len,
+                           size_t rhs_offset, const uint8_t *rhs_validity, size_t rhs_validity_len,
+                           size_t rhs_validity_offset, size_t length, uint8_t *values, size_t values_len,
+                           uint8_t *validity, size_t validity_len);
 
 /* OR: true where either is true, else null where either is null, else false. */
-uint32_t arrow2_or_kleene(const uint8_t *left, size_t left_len, size_t left_offset, const uint8_t *left_validity,
-                          size_t left_validity_len, size_t left_validity_offset, const uint8_t *right,
-                          size_t right_len, size_t right_offset, const uint8_t *right_validity,
-                          size_t right_validity_len, size_t right_validity_offset, size_t length, uint8_t *values,
-                          size_t values_len, uint8_t *validity, size_t validity_len);
+uint32_t arrow2_or_kleene(const uint8_t *lhs, size_t lhs_len, size_t lhs_offset, const uint8_t *lhs_validity,
+                          size_t lhs_validity_len, size_t lhs_validity_offset, const uint8_t *rhs, size_t rhs_len,
+                          size_t rhs_offset, const uint8_t *rhs_validity, size_t rhs_validity_len,
+                          size_t rhs_validity_offset, size_t length, uint8_t *values, size_t values_len,
+                          uint8_t *validity, size_t validity_len);
 
-/* The same where a side may have no validity. If `left_all_valid` is true no item of the left side is null: pointer,
- * number of bytes and offset of `left_validity` are not read, and ARROW2_RANGE never comes from them. The rule for
+/* The same where a side may have no validity. If `lhs_all_valid` is true no item of the left side is null: pointer,
+ * number of bytes and offset of `lhs_validity` are not read, and ARROW2_RANGE never comes from them. The rule for
  * slices still holds for the pointer and its number of bytes: pass NULL, 0, 0, or any valid bitmap, which is then
  * ignored. The same holds for the right side. */
-uint32_t arrow2_and_kleene_optional(const uint8_t *left, size_t left_len, size_t left_offset,
-                                    const uint8_t *left_validity, size_t left_validity_len,
-                                    size_t left_validity_offset, bool left_all_valid, const uint8_t *right,
-                                    size_t right_len, size_t right_offset, const uint8_t *right_validity,
-                                    size_t right_validity_len, size_t right_validity_offset, bool right_all_valid,
+uint32_t arrow2_and_kleene_optional(const uint8_t *lhs, size_t lhs_len, size_t lhs_offset, const uint8_t *lhs_validity,
+                                    size_t lhs_validity_len, size_t lhs_validity_offset, bool lhs_all_valid,
+                                    const uint8_t *rhs, size_t rhs_len, size_t rhs_offset, const uint8_t *rhs_validity,
+                                    size_t rhs_validity_len, size_t rhs_validity_offset, bool rhs_all_valid,
                                     size_t length, uint8_t *values, size_t values_len, uint8_t *validity,
                                     size_t validity_len);
-uint32_t arrow2_or_kleene_optional(const uint8_t *left, size_t left_len, size_t left_offset,
-                                   const uint8_t *left_validity, size_t left_validity_len,
-                                   size_t left_validity_offset, bool left_all_valid, const uint8_t *right,
-                                   size_t right_len, size_t right_offset, const uint8_t *right_validity,
-                                   size_t right_validity_len, size_t right_validity_offset, bool right_all_valid,
+uint32_t arrow2_or_kleene_optional(const uint8_t *lhs, size_t lhs_len, size_t lhs_offset, const uint8_t *lhs_validity,
+                                   size_t lhs_validity_len, size_t lhs_validity_offset, bool lhs_all_valid,
+                                   const uint8_t *rhs, size_t rhs_len, size_t rhs_offset, const uint8_t *rhs_validity,
+                                   size_t rhs_validity_len, size_t rhs_validity_offset, bool rhs_all_valid,
                                    size_t length, uint8_t *values, size_t values_len, uint8_t *validity,
                                    size_t validity_len);
 

@@ -25,8 +25,8 @@ macro_rules! operator {
         /// [`crate::bytes_for`]`(length)` bytes.
         #[inline]
         pub fn $name(
-            left: Nullable<'_>,
-            right: Nullable<'_>,
+            lhs: Nullable<'_>,
+            rhs: Nullable<'_>,
             length: usize,
             values: &mut [u8],
             validity: &mut [u8],
@@ -34,18 +34,18 @@ macro_rules! operator {
             // SAFETY: the slices are borrowed for the call, the last two alone, and it keeps none.
             to_result(unsafe {
                 sys::$export(
-                    left.values.bytes.as_ptr(),
-                    left.values.bytes.len(),
-                    left.values.offset,
-                    left.validity.bytes.as_ptr(),
-                    left.validity.bytes.len(),
-                    left.validity.offset,
-                    right.values.bytes.as_ptr(),
-                    right.values.bytes.len(),
-                    right.values.offset,
-                    right.validity.bytes.as_ptr(),
-                    right.validity.bytes.len(),
-                    right.validity.offset,
+                    lhs.values.bytes.as_ptr(),
+                    lhs.values.bytes.len(),
+                    lhs.values.offset,
+                    lhs.validity.bytes.as_ptr(),
+                    lhs.validity.bytes.len(),
+                    lhs.validity.offset,
+                    rhs.values.bytes.as_ptr(),
+                    rhs.values.bytes.len(),
+                    rhs.values.offset,
+                    rhs.validity.bytes.as_ptr(),
+                    rhs.validity.bytes.len(),
+                    rhs.validity.offset,
                     length,
                     values.as_mut_ptr(),
                     values.len(),
@@ -90,32 +90,32 @@ macro_rules! optional_operator {
         /// have [`crate::bytes_for`]`(length)` bytes.
         #[inline]
         pub fn $name(
-            left: OptionalNullable<'_>,
-            right: OptionalNullable<'_>,
+            lhs: OptionalNullable<'_>,
+            rhs: OptionalNullable<'_>,
             length: usize,
             values: &mut [u8],
             validity: &mut [u8],
         ) -> Result<(), Error> {
             let none = Bits { bytes: &[], offset: 0 };
-            let left_validity = left.validity.unwrap_or(none);
-            let right_validity = right.validity.unwrap_or(none);
+            let lhs_validity = lhs.validity.unwrap_or(none);
+            let rhs_validity = rhs.validity.unwrap_or(none);
             // SAFETY: the slices are borrowed for the call, the last two alone, and it keeps none.
             to_result(unsafe {
                 sys::$export(
-                    left.values.bytes.as_ptr(),
-                    left.values.bytes.len(),
-                    left.values.offset,
-                    left_validity.bytes.as_ptr(),
-                    left_validity.bytes.len(),
-                    left_validity.offset,
-                    left.validity.is_none(),
-                    right.values.bytes.as_ptr(),
-                    right.values.bytes.len(),
-                    right.values.offset,
-                    right_validity.bytes.as_ptr(),
-                    right_validity.bytes.len(),
-                    right_validity.offset,
-                    right.validity.is_none(),
+                    lhs.values.bytes.as_ptr(),
+                    lhs.values.bytes.len(),
+                    lhs.values.offset,
+                    lhs_validity.bytes.as_ptr(),
+                    lhs_validity.bytes.len(),
+                    lhs_validity.offset,
+                    lhs.validity.is_none(),
+                    rhs.values.bytes.as_ptr(),
+                    rhs.values.bytes.len(),
+                    rhs.values.offset,
+                    rhs_validity.bytes.as_ptr(),
+                    rhs_validity.bytes.len(),
+                    rhs_validity.offset,
+                    rhs.validity.is_none(),
                     length,
                     values.as_mut_ptr(),
                     values.len(),

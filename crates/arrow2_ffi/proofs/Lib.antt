@@ -1,6 +1,6 @@
 mod BoolSteps
 mod OffsetCodes
-mod OptionalKleene
+mod KleeneSteps
 mod IndexSteps
 mod RunSteps
 mod TextCodes

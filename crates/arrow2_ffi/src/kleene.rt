@@ -1,21 +1,51 @@
-//! Kleene's logic on values with their validity: an item is null where its validity bit is not set.
+//! Kleene's logic on values with their validity: an item is null where its validity bit is not set. Where a validity is
+//! missing, no item of that side is null. A missing validity needs no bytes.
 //!
 //! The values of the result are written over `values` and its validity over `validity`, from bit 0 on. Both slices must
 //! have exactly the number of bytes that hold `length` bits. Their padding bits become 0. Each value of the result is
-//! the operator applied to the two values, also where the result is null.
-ghost use Rattle.arrow2_array.specs.Kleene.{NullableOperator, TablesCompute};
-ghost use Rattle.arrow2_ffi.specs.Kleene.{WritesKleene, WritesKleeneAnd, WritesKleeneOr, input, input_of};
+//! the operator applied to the two values, also where the result is null. With another code than `ARROW2_OK` nothing is
+//! written.
+ghost use Rattle.std.specs.Prelude.{◌≡◌, ◌≢◌, ◌↔◌, false, IsTrue};
+ghost use Rattle.arrow2_model.specs.Tables.{each};
+ghost use Rattle.arrow2_array.specs.Kleene.{AgreesWhereOneIsValid, NullableOperator, TablesCompute};
+ghost use Rattle.arrow2_ffi.specs.Kleene.{GivesAnd, GivesOr, IsWholeInside, WritesKleene, first_parts, side, side_of};
+ghost use Rattle.arrow2_ffi.specs.Ranges.{HasBytesForBits};
+ghost use Rattle.arrow2_ffi.specs.Writes.{Stores};
 
-use crate::bits_input::{Bits, are_both_inside, hold};
+use crate::bits_input::{Bits, are_inside, hold};
 use crate::codes::{ARROW2_LENGTH, ARROW2_OK, ARROW2_RANGE};
-use crate::in_place::{write_four, write_two};
-use arrow2_array::kleene::{AND_KNOWN, AND_VALUES, OR_KNOWN, OR_VALUES};
+use crate::in_place::{write_four, write_three, write_two};
+use crate::validities::{covers_items, given_validity};
+use arrow2_array::kleene::{
+    AND_KNOWN, AND_KNOWN_PAIRED, AND_VALUES, OR_KNOWN, OR_KNOWN_PAIRED, OR_VALUES,
+};
 
-/// Values, and which of them are not null.
+/// The table of two inputs whose output is true for all inputs.
+const ALWAYS: u8 = 0b1111;
+
+/// Values, and their validity where some may be null.
 #[derive(Clone, Copy)]
-struct Nullable<'a> {
+struct Side<'a> {
     values: Bits<'a>,
-    validity: Bits<'a>,
+    validity: Option<Bits<'a>>,
+}
+
+impl<'a> Side<'a> {
+    /// Returns the side that a call was given. If `all_valid` is true, it has no validity.
+    fn new(
+        values: &'a [u8],
+        offset: usize,
+        validity: &'a [u8],
+        validity_offset: usize,
+        all_valid: bool,
+    ) -> Side<'a>
+        ensures { side_of result ≡ side values.now offset validity.now validity_offset all_valid }
+    {
+        Side {
+            values: Bits(values, offset),
+            validity: given_validity(all_valid, validity, validity_offset),
+        }
+    }
 }
 
 /// Writes AND, item by item: false where either is false, else null where either is null, else true.
@@ -25,98 +55,213 @@ struct Nullable<'a> {
 /// hold the items.
 #[unsafe(no_mangle)]
 pub extern "C" fn arrow2_and_kleene(
-    left: &[u8],
-    left_offset: usize,
-    left_validity: &[u8],
-    left_validity_offset: usize,
-    right: &[u8],
-    right_offset: usize,
-    right_validity: &[u8],
-    right_validity_offset: usize,
+    lhs: &[u8],
+    lhs_offset: usize,
+    lhs_validity: &[u8],
+    lhs_validity_offset: usize,
+    rhs: &[u8],
+    rhs_offset: usize,
+    rhs_validity: &[u8],
+    rhs_validity_offset: usize,
     length: usize,
     values: &mut [u8],
     validity: &mut [u8],
 ) -> u32
-    ensures { WritesKleeneAnd result length
-        (input left.now left_offset left_validity.now left_validity_offset)
-        (input right.now right_offset right_validity.now right_validity_offset)
-        values.old values.new validity.old validity.new }
+    // `false`: each side has a validity.
+    ensures written { GivesAnd result length
+        (side lhs.now lhs_offset lhs_validity.now lhs_validity_offset false)
+        (side rhs.now rhs_offset rhs_validity.now rhs_validity_offset false)
+        values.new validity.new }
+    ensures rejected { result ≢ ARROW2_OK →
+        (values.new ≡ values.old) × (validity.new ≡ validity.old) }
 {
-    let left = Nullable {
-        values: Bits(left, left_offset),
-        validity: Bits(left_validity, left_validity_offset),
-    };
-    let right = Nullable {
-        values: Bits(right, right_offset),
-        validity: Bits(right_validity, right_validity_offset),
-    };
-    write::<AND_VALUES, AND_KNOWN>(left, right, length, values, validity)
+    let lhs = Side::new(lhs, lhs_offset, lhs_validity, lhs_validity_offset, false);
+    let rhs = Side::new(rhs, rhs_offset, rhs_validity, rhs_validity_offset, false);
+    write::<AND_VALUES, AND_KNOWN, AND_KNOWN_PAIRED>(lhs, rhs, length, values, validity)
 }
 
 /// Writes OR, item by item: true where either is true, else null where either is null, else false.
 ///
-/// Returns `ARROW2_RANGE` exactly where the bits of any of the four inputs (values and validity of both sides) are not
-/// inside their bytes, else `ARROW2_LENGTH` exactly where `values` or `validity` does not have exactly the bytes that
-/// hold the items.
+/// Returns the codes of `arrow2_and_kleene`, in the same cases.
 #[unsafe(no_mangle)]
 pub extern "C" fn arrow2_or_kleene(
-    left: &[u8],
-    left_offset: usize,
-    left_validity: &[u8],
-    left_validity_offset: usize,
-    right: &[u8],
-    right_offset: usize,
-    right_validity: &[u8],
-    right_validity_offset: usize,
+    lhs: &[u8],
+    lhs_offset: usize,
+    lhs_validity: &[u8],
+    lhs_validity_offset: usize,
+    rhs: &[u8],
+    rhs_offset: usize,
+    rhs_validity: &[u8],
+    rhs_validity_offset: usize,
     length: usize,
     values: &mut [u8],
     validity: &mut [u8],
 ) -> u32
-    ensures { WritesKleeneOr result length
-        (input left.now left_offset left_validity.now left_validity_offset)
-        (input right.now right_offset right_validity.now right_validity_offset)
-        values.old values.new validity.old validity.new }
+    ensures written { GivesOr result length
+        (side lhs.now lhs_offset lhs_validity.now lhs_validity_offset false)
+        (side rhs.now rhs_offset rhs_validity.now rhs_validity_offset false)
+        values.new validity.new }
+    ensures rejected { result ≢ ARROW2_OK →
+        (values.new ≡ values.old) × (validity.new ≡ validity.old) }
 {
-    let left = Nullable {
-        values: Bits(left, left_offset),
-        validity: Bits(left_validity, left_validity_offset),
-    };
-    let right = Nullable {
-        values: Bits(right, right_offset),
-        validity: Bits(right_validity, right_validity_offset),
-    };
-    write::<OR_VALUES, OR_KNOWN>(left, right, length, values, validity)
+    let lhs = Side::new(lhs, lhs_offset, lhs_validity, lhs_validity_offset, false);
+    let rhs = Side::new(rhs, rhs_offset, rhs_validity, rhs_validity_offset, false);
+    write::<OR_VALUES, OR_KNOWN, OR_KNOWN_PAIRED>(lhs, rhs, length, values, validity)
 }
 
-/// Writes the values by table `VALUES` of two inputs, and the validity by table `KNOWN` of four inputs. The contract
-/// states something only if an operator `f` exists that both tables compute, as they do for AND and for OR.
-fn write<const VALUES: u8, const KNOWN: u16>(
-    left: Nullable<'_>,
-    right: Nullable<'_>,
+/// Writes AND, item by item, as `arrow2_and_kleene` does. If `lhs_all_valid` is true, no item of the left side is null,
+/// and `lhs_validity` and its offset are ignored. The same holds for the right side.
+///
+/// Returns `ARROW2_RANGE` exactly where the value bits of a side, or its validity bits if they are not ignored, are not
+/// inside their bytes, else `ARROW2_LENGTH` exactly where the output `values` or `validity` does not have exactly the
+/// bytes that hold the items.
+#[unsafe(no_mangle)]
+pub extern "C" fn arrow2_and_kleene_optional(
+    lhs: &[u8],
+    lhs_offset: usize,
+    lhs_validity: &[u8],
+    lhs_validity_offset: usize,
+    lhs_all_valid: bool,
+    rhs: &[u8],
+    rhs_offset: usize,
+    rhs_validity: &[u8],
+    rhs_validity_offset: usize,
+    rhs_all_valid: bool,
     length: usize,
     values: &mut [u8],
     validity: &mut [u8],
 ) -> u32
-    ensures { (f : NullableOperator) → TablesCompute VALUES KNOWN f →
-        WritesKleene result f VALUES KNOWN length (input_of left.entry) (input_of right.entry)
-        values.old values.new validity.old validity.new }
+    ensures written { GivesAnd result length
+        (side lhs.now lhs_offset lhs_validity.now lhs_validity_offset lhs_all_valid)
+        (side rhs.now rhs_offset rhs_validity.now rhs_validity_offset rhs_all_valid)
+        values.new validity.new }
+    ensures rejected { result ≢ ARROW2_OK →
+        (values.new ≡ values.old) × (validity.new ≡ validity.old) }
 {
-    if !are_both_inside(left.values, left.validity, length)
-        || !are_both_inside(right.values, right.validity, length)
-    {
+    let lhs = Side::new(
+        lhs,
+        lhs_offset,
+        lhs_validity,
+        lhs_validity_offset,
+        lhs_all_valid,
+    );
+    let rhs = Side::new(
+        rhs,
+        rhs_offset,
+        rhs_validity,
+        rhs_validity_offset,
+        rhs_all_valid,
+    );
+    write::<AND_VALUES, AND_KNOWN, AND_KNOWN_PAIRED>(lhs, rhs, length, values, validity)
+}
+
+/// Writes OR, item by item, as `arrow2_or_kleene` does. If `lhs_all_valid` is true, no item of the left side is null,
+/// and `lhs_validity` and its offset are ignored. The same holds for the right side.
+///
+/// Returns the codes of `arrow2_and_kleene_optional`, in the same cases.
+#[unsafe(no_mangle)]
+pub extern "C" fn arrow2_or_kleene_optional(
+    lhs: &[u8],
+    lhs_offset: usize,
+    lhs_validity: &[u8],
+    lhs_validity_offset: usize,
+    lhs_all_valid: bool,
+    rhs: &[u8],
+    rhs_offset: usize,
+    rhs_validity: &[u8],
+    rhs_validity_offset: usize,
+    rhs_all_valid: bool,
+    length: usize,
+    values: &mut [u8],
+    validity: &mut [u8],
+) -> u32
+    ensures written { GivesOr result length
+        (side lhs.now lhs_offset lhs_validity.now lhs_validity_offset lhs_all_valid)
+        (side rhs.now rhs_offset rhs_validity.now rhs_validity_offset rhs_all_valid)
+        values.new validity.new }
+    ensures rejected { result ≢ ARROW2_OK →
+        (values.new ≡ values.old) × (validity.new ≡ validity.old) }
+{
+    let lhs = Side::new(
+        lhs,
+        lhs_offset,
+        lhs_validity,
+        lhs_validity_offset,
+        lhs_all_valid,
+    );
+    let rhs = Side::new(
+        rhs,
+        rhs_offset,
+        rhs_validity,
+        rhs_validity_offset,
+        rhs_all_valid,
+    );
+    write::<OR_VALUES, OR_KNOWN, OR_KNOWN_PAIRED>(lhs, rhs, length, values, validity)
+}
+
+/// Writes the values by table `VALUES` of two inputs, and the validity as `write_known` does, which states what it
+/// requires of the tables. The clause `written` states something only if an operator `f` exists that `VALUES` and
+/// `KNOWN` compute, as they do for AND and for OR.
+fn write<const VALUES: u8, const KNOWN: u16, const PAIRED: u8>(
+    lhs: Side<'_>,
+    rhs: Side<'_>,
+    length: usize,
+    values: &mut [u8],
+    validity: &mut [u8],
+) -> u32
+    requires paired { AgreesWhereOneIsValid PAIRED KNOWN }
+    ensures written { (f : NullableOperator) → TablesCompute VALUES KNOWN f →
+        WritesKleene result f VALUES KNOWN length (side_of lhs.entry) (side_of rhs.entry)
+        values.new validity.new }
+    ensures rejected { result ≢ ARROW2_OK →
+        (values.new ≡ values.old) × (validity.new ≡ validity.old) }
+{
+    if !is_inside(lhs, length) || !is_inside(rhs, length) {
         return ARROW2_RANGE;
     }
     if !hold(values, length) || !hold(validity, length) {
         return ARROW2_LENGTH;
     }
-    write_two::<VALUES>(values, length, left.values, right.values);
-    write_four::<KNOWN>(
-        validity,
-        length,
-        left.values,
-        left.validity,
-        right.values,
-        right.validity,
-    );
+    write_two::<VALUES>(values, length, lhs.values, rhs.values);
+    write_known::<KNOWN, PAIRED>(validity, length, lhs, rhs);
     ARROW2_OK
+}
+
+/// Returns whether the first `length` bits of the values, and of the validity if there is one, are inside their bytes.
+fn is_inside(side: Side<'_>, length: usize) -> bool
+    ensures { IsTrue result ↔ IsWholeInside length (side_of side.entry) }
+{
+    are_inside(side.values, length) && covers_items(side.validity, length)
+}
+
+/// Writes which results are not null. Where both sides have a validity, uses table `KNOWN` of both values and
+/// validities. Where only one side has a validity, uses table `PAIRED`: its inputs are value and validity of that side,
+/// then the value of the other side. Where neither has one, no result is null. Requires that the output of `PAIRED` is
+/// that of `KNOWN` for a validity of the other side that is true, and that the output of `KNOWN` is true where both
+/// validities are.
+fn write_known<const KNOWN: u16, const PAIRED: u8>(
+    out: &mut [u8],
+    length: usize,
+    lhs: Side<'_>,
+    rhs: Side<'_>,
+)
+    requires exact { HasBytesForBits out.old length }
+    requires lhs { IsWholeInside length (side_of lhs) }
+    requires rhs { IsWholeInside length (side_of rhs) }
+    requires paired { AgreesWhereOneIsValid PAIRED KNOWN }
+    ensures { Stores out.new length
+        (each KNOWN (first_parts length (side_of lhs.entry) (side_of rhs.entry))) }
+{
+    match (lhs.validity, rhs.validity) {
+        (None, None) => write_two::<ALWAYS>(out, length, lhs.values, rhs.values),
+        (Some(known), None) => {
+            write_three::<PAIRED>(out, length, lhs.values, known, rhs.values);
+        }
+        (None, Some(known)) => {
+            write_three::<PAIRED>(out, length, rhs.values, known, lhs.values);
+        }
+        (Some(known), Some(other)) => {
+            write_four::<KNOWN>(out, length, lhs.values, known, rhs.values, other);
+        }
+    }
 }

@@ -14,7 +14,6 @@ mod in_place;
 mod index_checks;
 mod inside;
 pub mod kleene;
-pub mod kleene_optional;
 pub mod offsets;
 pub mod runs;
 pub mod set_indices;

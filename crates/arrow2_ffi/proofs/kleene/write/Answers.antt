@@ -1,31 +1,31 @@
-use Rattle.std.proofs.Common.{◌≡◌, ◌∙◌, ℕ, List, [], ◌∷◌, Bool, sym, length, rules}
-use Rattle.std.specs.Prelude.{Option}
-use Rattle.arrow2_model.specs.Tables.{each}
+use Rattle.std.proofs.Common.{◌≡◌, ◌∙◌, length, sym}
 use Rattle.arrow2_model.proofs.Cursors.{length-part_bits}
-use Rattle.arrow2_walks.specs.Zipped.{zipped}
-use Rattle.arrow2_array.specs.Kleene.{by_items, TablesCompute}
 use Rattle.arrow2_array.proofs.Tables.{by_tables}
-use Rattle.arrow2_ffi.specs.declared.bits_input.Bits.{Bits}
-use Rattle.arrow2_ffi.specs.Ranges.{HasBits, first_bits}
+use Rattle.arrow2_ffi.specs.Ranges.{first_bits}
+use Rattle.arrow2_ffi.specs.Validities.{items_not_null, validity_bits}
+use Rattle.arrow2_ffi.proofs.KleeneSteps.{length-valid_items}
 use Rattle.arrow2_ffi.proofs.WriteSteps.{wrote}
 use Rattle.arrow2_ffi.proofs.kleene.write.Goals as goal
 
--- the outputs of the two tables are the items that f makes
-answered : (f : Option Bool → Option Bool → Option Bool) (t known n : ℕ) (left left_known right right_known : Bits) (values validity : List Bool) → TablesCompute t known f → HasBits left n → HasBits left_known n → HasBits right n → HasBits right_known n
-    → values ≡ each t (first_bits left n ∷ first_bits right n ∷ [])
-    → validity ≡ each known (first_bits left n ∷ first_bits left_known n ∷ first_bits right n ∷ first_bits right_known n ∷ [])
-    → zipped values validity ≡ by_items f (zipped (first_bits left n) (first_bits left_known n)) (zipped (first_bits right n) (first_bits right_known n))
-answered f t known n left left_known right right_known values validity spelled a b d e is is_known =
-    let size : (bits : Bits) → HasBits bits n → length (first_bits bits n) ≡ n = λ bits all. length-part_bits bits.0.now bits.1 n all in
-    rw (is, is_known) (by_tables t known f (first_bits left n) (first_bits left_known n) (first_bits right n) (first_bits right_known n) spelled
-    (size left_known b ∙ sym (size left a)) (size right d ∙ sym (size left a)) (size right_known e ∙ sym (size left a)))
-
-pub returns : goal.returns
-returns g c f spelled =
-    let left = c.are_both_inside.ensures.0 c.if-not-are_both_inside.false in
-    let right = c.are_both_inside-else-not-are_both_inside.ensures.0 c.if-not-are_both_inside-2.false in
-    wrote (search rules) (search rules) (record {
-      items = answered f _ _ c.args.length c.args.left.values c.args.left.validity c.args.right.values c.args.right.validity _ _ spelled left.0 left.1 right.0 right.1 c.write_two.ensures.items c.write_four.ensures.items;
-      values = c.write_two.ensures;
-      validity = c.write_four.ensures;
+pub returns-clause-written : goal.returns-clause-written
+returns-clause-written g c f spelled =
+    let n = c.args.length in
+    let l = c.args.lhs in
+    let r = c.args.rhs in
+    let left = c.is_inside.ensures.0 c.if-not-is_inside.false in
+    let right = c.is_inside-else-not-is_inside.ensures.0 c.if-not-is_inside-2.false in
+    let xs = first_bits l.values n in
+    let ns = items_not_null (validity_bits l.validity) n in
+    let ys = first_bits r.values n in
+    let ms = items_not_null (validity_bits r.validity) n in
+    let x : length xs ≡ n = length-part_bits l.values.0.now l.values.1 n left.0 in
+    let y : length ys ≡ n = length-part_bits r.values.0.now r.values.1 n right.0 in
+    let a = length-valid_items l.validity n left.1 in
+    let b = length-valid_items r.validity n right.1 in
+    let values = c.write_two.ensures in
+    let validity = c.write_known.ensures in
+    wrote (left, right) (values.canonical.exact, validity.canonical.exact) (record {
+      items = rw (values.items, validity.items) (by_tables _ _ f xs ns ys ms spelled (a ∙ sym x) (y ∙ sym x) (b ∙ sym x));
+      values = values;
+      validity = validity;
     })

@@ -1,5 +1,5 @@
--- Kleene's logic by a table of three inputs where one validity is missing.
-use Rattle.std.proofs.Common.{◌≡◌, ◌∙◌, ℕ, List, [], ◌∷◌, Bool, true, false, length, ap, get_or, replicate, refl, sym}
+-- Kleene's logic where a validity may be missing.
+use Rattle.std.proofs.Common.{◌≡◌, ◌∙◌, ℕ, List, [], ◌∷◌, Bool, true, false, length, ap, get_or, replicate, refl, subst, sym}
 use Rattle.std.specs.Prelude.{Option, None, Some}
 use Rattle.std.proofs.lemmas.List.{length-replicate, get_or-replicate}
 use Rattle.arrow2_model.specs.Bits.{bit}
@@ -7,6 +7,8 @@ use Rattle.arrow2_model.specs.Tables.{answer, each}
 use Rattle.arrow2_model.proofs.Kernels.{each_from}
 use Rattle.arrow2_model.proofs.Cursors.{length-part_bits}
 use Rattle.arrow2_ffi.specs.declared.bits_input.Bits.{Bits}
+use Rattle.arrow2_array.specs.Kleene.{NullableOperator}
+use Rattle.arrow2_ffi.specs.Kleene.{Input, WritesKleene}
 use Rattle.arrow2_ffi.specs.Ranges.{first_bits}
 use Rattle.arrow2_ffi.specs.Validities.{CoversItems, items_not_null, validity_bits}
 
@@ -34,3 +36,9 @@ pub all_true : (xs ys : List Bool) → each 15 (xs ∷ ys ∷ []) ≡ replicate 
 all_true xs ys =
     sym (each_from 15 (xs ∷ ys ∷ []) (replicate (length xs) true) (length-replicate (length xs) true)
     (λ k k<. get_or-replicate (length xs) k true false k< ∙ sym (always (get_or xs k false) (get_or ys k false))))
+
+module _ {code t known n : ℕ} {f : NullableOperator} {l l2 r r2 : Input} {values validity : List ℕ} where
+  -- the same call of two inputs that are equal to these
+  pub on_equal_inputs : l ≡ l2 → r ≡ r2 → WritesKleene code f t known n l r values validity → WritesKleene code f t known n l2 r2 values validity
+  on_equal_inputs left right written =
+      subst (λ x. WritesKleene code f t known n l2 x values validity) right (subst (λ x. WritesKleene code f t known n x r values validity) left written)

@@ -4,18 +4,18 @@ use Rattle.arrow2_model.proofs.Cursors.{length-part_bits}
 use Rattle.arrow2_array.proofs.Tables.{all_known, paired_left, paired_right}
 use Rattle.arrow2_ffi.specs.Ranges.{first_bits}
 use Rattle.arrow2_ffi.specs.Validities.{items_not_null, validity_bits}
-use Rattle.arrow2_ffi.proofs.OptionalKleene.{all_true, all_valid, given_items}
-use Rattle.arrow2_ffi.proofs.kleene_optional.write_known.Goals as goal
+use Rattle.arrow2_ffi.proofs.KleeneSteps.{all_true, all_valid, given_items}
+use Rattle.arrow2_ffi.proofs.kleene.write_known.Goals as goal
 
 pub returns-in-None-None : goal.returns-in-None-None
 returns-in-None-None g c =
     let n = c.args.length in
-    let l = c.args.left in
-    let r = c.args.right in
+    let l = c.args.lhs in
+    let r = c.args.rhs in
     let xs = first_bits l.values n in
     let ys = first_bits r.values n in
-    let x : length xs ≡ n = length-part_bits l.values.0.now l.values.1 n c.requires.left.0 in
-    let y : length ys ≡ n = length-part_bits r.values.0.now r.values.1 n c.requires.right.0 in
+    let x : length xs ≡ n = length-part_bits l.values.0.now l.values.1 n c.requires.lhs.0 in
+    let y : length ys ≡ n = length-part_bits r.values.0.now r.values.1 n c.requires.rhs.0 in
     let left = all_valid l.validity xs n c.in-None-None.is-0 x in
     let right = all_valid r.validity ys n c.in-None-None.is-1 y in
     record {
@@ -26,12 +26,12 @@ returns-in-None-None g c =
 pub returns-in-Some-None : goal.returns-in-Some-None
 returns-in-Some-None g c =
     let n = c.args.length in
-    let l = c.args.left in
-    let r = c.args.right in
+    let l = c.args.lhs in
+    let r = c.args.rhs in
     let xs = first_bits l.values n in
     let ys = first_bits r.values n in
-    let x : length xs ≡ n = length-part_bits l.values.0.now l.values.1 n c.requires.left.0 in
-    let y : length ys ≡ n = length-part_bits r.values.0.now r.values.1 n c.requires.right.0 in
+    let x : length xs ≡ n = length-part_bits l.values.0.now l.values.1 n c.requires.lhs.0 in
+    let y : length ys ≡ n = length-part_bits r.values.0.now r.values.1 n c.requires.rhs.0 in
     let left = given_items l.validity _ n c.in-Some-None.is-0 in
     let right = all_valid r.validity ys n c.in-Some-None.is-1 y in
     record {
@@ -42,12 +42,12 @@ returns-in-Some-None g c =
 pub returns-in-None-Some : goal.returns-in-None-Some
 returns-in-None-Some g c =
     let n = c.args.length in
-    let l = c.args.left in
-    let r = c.args.right in
+    let l = c.args.lhs in
+    let r = c.args.rhs in
     let xs = first_bits l.values n in
     let ys = first_bits r.values n in
-    let x : length xs ≡ n = length-part_bits l.values.0.now l.values.1 n c.requires.left.0 in
-    let y : length ys ≡ n = length-part_bits r.values.0.now r.values.1 n c.requires.right.0 in
+    let x : length xs ≡ n = length-part_bits l.values.0.now l.values.1 n c.requires.lhs.0 in
+    let y : length ys ≡ n = length-part_bits r.values.0.now r.values.1 n c.requires.rhs.0 in
     let left = all_valid l.validity xs n c.in-None-Some.is-0 x in
     let right = given_items r.validity _ n c.in-None-Some.is-1 in
     record {
@@ -58,8 +58,8 @@ returns-in-None-Some g c =
 pub returns-in-Some-Some : goal.returns-in-Some-Some
 returns-in-Some-Some g c =
     let n = c.args.length in
-    let l = c.args.left in
-    let r = c.args.right in
+    let l = c.args.lhs in
+    let r = c.args.rhs in
     let left = given_items l.validity _ n c.in-Some-Some.is-0 in
     let right = given_items r.validity _ n c.in-Some-Some.is-1 in
     record {

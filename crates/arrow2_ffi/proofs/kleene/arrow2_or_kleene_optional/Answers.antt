@@ -1,0 +1,10 @@
+use Rattle.arrow2_array.specs.Kleene.{kleene_or}
+use Rattle.arrow2_array.proofs.Tables.{or_paired_table, or_spelled}
+use Rattle.arrow2_ffi.proofs.KleeneSteps.{on_equal_inputs}
+use Rattle.arrow2_ffi.proofs.kleene.arrow2_or_kleene_optional.Goals as goal
+
+pub returns-clause-written : goal.returns-clause-written
+returns-clause-written c = on_equal_inputs c.new-lhs.ensures c.new-rhs.ensures (c.write.ensures.written kleene_or or_spelled)
+
+pub write-requires : goal.write-requires
+write-requires c = record { paired = or_paired_table }
