@@ -407,10 +407,9 @@ impl Bitmap {
     }
 
     /// Returns an iterator over the items by words of `T`, from the first item on. In the contract, `spill` is the word
-    /// that `remainder` returns. Its lowest bits are the items after the last full word. Above these come bits that are
-    /// stored after the last item, up to the width of the word. If the bitmap has a full word, they end with the byte
-    /// that holds the last item. If it has no full word, they go on into the bytes after that byte. All other bits of
-    /// the word are 0.
+    /// that `remainder` returns. Its lowest bits are the items after the last full word. Above these, up to the width of
+    /// the word, come stored bits that are no items: those of the byte that holds the last item and, where the bitmap has
+    /// no full word, those of the bytes after that byte. All other bits of the word are 0.
     pub fn chunks<T: BitChunk>(&self) -> BitChunks<'_, T>
         ensures items { result.items ≡ items_of self.now }
         ensures fits { length (items_of self.now) < 2 ^ 64 }

@@ -28,6 +28,7 @@ impl Model for IntoIter {
 
     ghost view = { λ i. part (items_of i.values) i.index (i.end - i.index) };
 
+    // The last part is true of every bitmap; it stands here for the proofs.
     ghost invariant = { λ i. (i.index ≤ i.end) × (i.end ≤ i.values.len)
         × (i.values.len ≡ length (items_of i.values)) };
 }

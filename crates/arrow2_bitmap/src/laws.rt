@@ -5,15 +5,15 @@ ghost use Rattle.arrow2_model.specs.Canonical.{canonical_bytes};
 ghost use Rattle.arrow2_bitmap.specs.PackedBitmaps.{packed_storage};
 ghost use Rattle.arrow2_model.specs.Storage.{BitmapStorage, GrowingBitmap, items_of};
 
-/// Two bitmaps that grow, of equal length, are equal exactly if their bytes are.
+/// Two bitmaps that grow, of equal length, have equal items exactly if their canonical bytes are equal.
 #[tactic(auto, using(crate::proofs::Bytes::canonical))]
 pub fn bytes_tell_growing_bitmaps_apart()
     ensures { (m n : GrowingBitmap) → length m.items ≡ length n.items →
         (m.items ≡ n.items) ↔ (canonical_bytes m.items ≡ canonical_bytes n.items) }
 {}
 
-/// A bitmap frozen from one that grows has the same items. Two growing bitmaps are equal exactly if they are frozen to
-/// equal storage: equal bytes and equal lengths, with the items from bit 0 on.
+/// A bitmap that is converted (`TryFrom`) from one that grows has the same items. Two growing bitmaps have equal items
+/// exactly if they are converted to equal storage: equal bytes and equal lengths, with the items from bit 0 on.
 #[tactic(auto, using(crate::proofs::Bytes::canonical))]
 pub fn equal_items_freeze_to_equal_bytes()
     ensures items { (m : GrowingBitmap) (a : BitmapStorage) →

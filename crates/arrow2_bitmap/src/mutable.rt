@@ -57,7 +57,7 @@ impl Model for MutableBitmap {
 
     ghost Value = { GrowingBitmap };
 
-    // As its packed bits are seen.
+    // The value of its private field `bits`, which are packed bits.
     ghost view = { λ m. m.bits };
 }
 
