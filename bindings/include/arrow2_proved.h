@@ -11,7 +11,7 @@
  *   their type, even where that number is 0.
  * - A pointer to a single value (`zeros`, `equal`, `value`, `at`, `count`, `index`, `slot`) must not be NULL.
  * - NULL never means that a validity is missing. A call that accepts a missing validity has an argument that states
- *   whether it is missing: `all_valid`, `left_all_valid`, `right_all_valid`. Without a validity bitmap pass NULL as
+ *   whether it is missing: `all_valid`, `lhs_all_valid`, `rhs_all_valid`. Without a validity bitmap pass NULL as
  *   the pointer, 0 as the number of bytes, 0 as the offset, and true as this argument. Every other call needs the
  *   bitmap.
  * - An output must not overlap any other argument, input or output. `bytes` of the *_assign_table calls and of

@@ -407,14 +407,15 @@ impl Bitmap {
     }
 
     /// Returns an iterator over the items by words of `T`, from the first item on. In the contract, `spill` is the word
-    /// that `remainder` returns. Its lowest bits are the items after the last full word. Above these, up to the width of
-    /// the word, come stored bits that are no items: those of the byte that holds the last item and, where the bitmap has
-    /// no full word, those of the bytes after that byte. All other bits of the word are 0.
+    /// that `remainder` returns. Its lowest bits are the items after the full words. Above these, up to the width of
+    /// the word, come the stored bits that follow the last item: the rest of its byte and, where the bitmap has no full
+    /// word, the bytes after that byte. For an empty bitmap they are the stored bits from its bit offset on. All other
+    /// bits of the word are 0.
     pub fn chunks<T: BitChunk>(&self) -> BitChunks<'_, T>
         ensures items { result.items ≡ items_of self.now }
         ensures fits { length (items_of self.now) < 2 ^ 64 }
-        // The word that `remainder` returns. Lowest bits: the items after the full words. Above them: stored bits that
-        // are no items, as far as `spilled_bytes` goes. Then zeros.
+        // The word that `remainder` returns. Lowest bits: the items after the full words. Above them: the stored bits
+        // that follow them, as far as `spilled_bytes` goes. Then zeros.
         ensures spill { result.spill ≡ spill T.SIZE self.now.bytes
             self.now.offset self.now.len }
     {

@@ -12,8 +12,9 @@ pub fn bytes_tell_growing_bitmaps_apart()
         (m.items ≡ n.items) ↔ (canonical_bytes m.items ≡ canonical_bytes n.items) }
 {}
 
-/// A bitmap that is converted (`TryFrom`) from one that grows has the same items. Two growing bitmaps have equal items
-/// exactly if they are converted to equal storage: equal bytes and equal lengths, with the items from bit 0 on.
+/// A bitmap that is stored as `packed_storage` of the items of a growing one, as `TryFrom` stores it, has these items.
+/// Two growing bitmaps have equal items exactly if these storages are equal: equal bytes and equal lengths, with the
+/// items from bit 0 on.
 #[tactic(auto, using(crate::proofs::Bytes::canonical))]
 pub fn equal_items_freeze_to_equal_bytes()
     ensures items { (m : GrowingBitmap) (a : BitmapStorage) →

@@ -238,7 +238,8 @@ fn is_inside(side: Side<'_>, length: usize) -> bool
 /// validities. Where only one side has a validity, uses table `PAIRED`: its inputs are value and validity of that side,
 /// then the value of the other side. Where neither has one, no result is null. Requires that the output of `PAIRED` is
 /// that of `KNOWN` for a validity of the other side that is true, and that the output of `KNOWN` is true where both
-/// validities are.
+/// validities are. Also requires that `out` has exactly the bytes that `length` bits need, and that `length` bits of
+/// the values of each side, and of its validity if it has one, are inside their bytes.
 fn write_known<const KNOWN: u16, const PAIRED: u8>(
     out: &mut [u8],
     length: usize,

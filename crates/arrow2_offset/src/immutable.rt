@@ -70,18 +70,18 @@ impl<O: Offset> OffsetsBuffer<O> {
         OffsetsBuffer::try_from(Offsets::new(alloc)?)
     }
 
-    /// Returns `Right` of offsets that grow, with the same list, or `Left` of the offsets as they were. `Right` comes only
-    /// if nothing is sliced off.
+    /// Returns `Right` of offsets that grow, with the same list, or `Left` of the offsets as they were. `Right` comes
+    /// only if nothing is sliced off.
     ///
-    /// In the code, `Right` comes exactly where nothing is sliced off and nobody shares the storage, and the call does not
-    /// allocate. No clause states these two.
+    /// In the code, `Right` also comes only if nobody shares the storage, and always if both hold; the call does not
+    /// allocate. No clause states these three facts.
     ///
     /// Differs from arrow2, which returns the whole storage, also where the offsets are sliced.
     pub fn into_mut(self) -> Either<Self, Offsets<O>>
         ensures items { MatchEither result (λ b. b ≡ self) (λ o.
             (map pos (offsets_of o) ≡ buffer_items self) × (o.start ≡ start_of (buffer_items self))
             × (o.lengths ≡ lengths_of (buffer_items self))) }
-        // `Right` comes only where the items are the whole storage: with `items`, nothing is sliced off.
+        // The list of `Right` is the whole storage: so, with `items`, nothing is sliced off.
         ensures whole { MatchEither result (λ _. ⊤) (λ o. map pos (offsets_of o) ≡ self.storage) }
     {
         let OffsetsBuffer { buffer } = self;

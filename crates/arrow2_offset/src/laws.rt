@@ -45,8 +45,8 @@ pub fn lists_tell_starts_and_lengths_apart()
 {}
 
 /// If `wide` has the same offsets as `narrow`, and `back` the same as `wide`, then `back` and `narrow` are the same
-/// list. So with the contracts of both conversions: where both succeed, offsets of 32 bits that are converted to 64 bits
-/// and back are the same list as before.
+/// list. So, by the contracts of both conversions of `Offsets`, offsets of 32 bits that are converted to 64 bits and
+/// back are the same list as before, where both succeed.
 #[tactic(auto, using(crate::proofs::OffsetLaws::listed))]
 pub fn offsets_converted_back_are_equal()
     ensures { (narrow wide back : GrowingOffsets) → SameOffsets narrow wide →
