@@ -1,5 +1,6 @@
 -- The errors of calls on offsets.
 use Rattle.std.specs.Prelude.{◌≡◌, ℕ, ℤ, pos, negsuc, List, [], ◌∷◌, codes, string_bytes}
+use Rattle.arrow2_offset.specs.Offsets.{AreOffsets}
 use Rattle.arrow2_offset.specs.declared.check.BrokenRule.{BrokenRule}
 use Rattle.arrow2_offset.specs.declared.check.BrokenRule.TheVariants.{Empty, Negative, Falling}
 use Rattle.arrow2_types.specs.declared.error.Error.{Error}
@@ -28,3 +29,11 @@ abbrev pub IsOutOfSpecOrOutOfMemory : Error → List ℕ → Type 0
 IsOutOfSpecOrOutOfMemory (OutOfSpec text) words = string_bytes text ≡ words
 IsOutOfSpecOrOutOfMemory OutOfMemory words = Unit {0}
 IsOutOfSpecOrOutOfMemory _ words = ⊥
+
+-- the error of a conversion that fails exactly where the numbers are not offsets
+abbrev pub RejectsNumbers : Error → List ℤ → Type 0
+RejectsNumbers e xs = ¬ AreOffsets xs × IsOutOfSpecOrOutOfMemory e (not_offsets_message xs)
+
+-- the error of a conversion that may also run out of memory where the numbers are offsets
+abbrev pub RejectsOrRunsOut : Error → List ℤ → Type 0
+RejectsOrRunsOut e xs = IsOutOfSpecOrOutOfMemory e (not_offsets_message xs) × (AreOffsets xs → e ≡ OutOfMemory)

@@ -5,7 +5,7 @@ ghost use Rattle.std.specs.Cmp.{partial_equiv_from_equiv, int_eq_equiv, on_equiv
 ghost use Rattle.std.specs.Cmp.Lexicographic.{pointwise, lists_equiv};
 ghost use Rattle.either.specs.Either.{MatchEither};
 ghost use Rattle.arrow2_types.specs.declared.error.Error.TheVariants.{OutOfMemory};
-ghost use Rattle.arrow2_offset.specs.Failures.{IsOutOfSpecOrOutOfMemory, not_offsets_message};
+ghost use Rattle.arrow2_offset.specs.Failures.{RejectsNumbers, RejectsOrRunsOut};
 ghost use Rattle.arrow2_model.specs.Parts.{part};
 ghost use Rattle.arrow2_model.specs.Buffers.{buffer_items, whole_buffer};
 ghost use Rattle.arrow2_offset.specs.Offsets.{AreOffsets, AreOffsetsUpTo, offset_at, offsets_of, offsets_list, start_of, lengths_of, last_of, numbers_of};
@@ -271,9 +271,8 @@ impl<O: Offset> TryFrom<Buffer<O>> for OffsetsBuffer<O> {
     type Error = Error;
 
     ghost try_from_gives = { λ buffer r. MatchResult r (λ b. AreOffsets (buffer_items b)
-        × (b ≡ numbers_of O.value buffer)) (λ e.
-        ¬ AreOffsets (map O.value (buffer_items buffer))
-        × IsOutOfSpecOrOutOfMemory e (not_offsets_message (map O.value (buffer_items buffer)))) };
+        × (b ≡ numbers_of O.value buffer))
+        (λ e. RejectsNumbers e (map O.value (buffer_items buffer))) };
 
     fn try_from(buffer: Buffer<O>) -> Result<Self> {
         try_check_offsets(buffer.allocator(), buffer.as_slice())?;
@@ -293,9 +292,8 @@ impl<O: Offset> TryFrom<Vec<O>> for OffsetsBuffer<O> {
     type Error = Error;
 
     ghost try_from_gives = { λ vector r. MatchResult r (λ b. AreOffsets (buffer_items b)
-        × (b ≡ whole_buffer (map O.value vector.items))) (λ e.
-        IsOutOfSpecOrOutOfMemory e (not_offsets_message (map O.value vector.items))
-        × (AreOffsets (map O.value vector.items) → e ≡ OutOfMemory)) };
+        × (b ≡ whole_buffer (map O.value vector.items)))
+        (λ e. RejectsOrRunsOut e (map O.value vector.items)) };
 
     fn try_from(offsets: Vec<O>) -> Result<Self> {
         OffsetsBuffer::try_from(Offsets::try_from(offsets)?)
@@ -313,10 +311,10 @@ impl<O: Offset> TryFrom<Vec<O>> for OffsetsBuffer<O> {
 impl<O: Offset> TryFrom<Offsets<O>> for OffsetsBuffer<O> {
     type Error = Error;
 
-    ghost try_from_gives = { λ offsets r. MatchResult r (λ b.
-        (b ≡ whole_buffer (map pos (offsets_of offsets)))
-        × (start_of (buffer_items b) ≡ offsets.start)
-        × (lengths_of (buffer_items b) ≡ offsets.lengths)) (λ e. e ≡ OutOfMemory) };
+    ghost try_from_gives = { λ from r. MatchResult r (λ b.
+        (b ≡ whole_buffer (map pos (offsets_of from)))
+        × (start_of (buffer_items b) ≡ from.start)
+        × (lengths_of (buffer_items b) ≡ from.lengths)) (λ e. e ≡ OutOfMemory) };
 
     fn try_from(offsets: Offsets<O>) -> Result<Self> {
         let buffer = Buffer::try_from(offsets.into_inner())?;

@@ -12,7 +12,7 @@ ghost use Rattle.arrow2_offset.specs.Offsets.{AreOffsets, offset_at, AreOffsetsU
 ghost use Rattle.arrow2_offset.specs.Iterators.{MayYieldPast};
 ghost use Rattle.arrow2_offset.specs.Growth.{Grows, GrowsUpTo, GrowsByIterator};
 ghost use Rattle.arrow2_offset.specs.NewOffsets.{offsets_of_vec};
-ghost use Rattle.arrow2_offset.specs.Failures.{IsOutOfSpecOrOutOfMemory, not_offsets_message};
+ghost use Rattle.arrow2_offset.specs.Failures.{RejectsNumbers};
 ghost use Rattle.arrow2_types.specs.Failures.{error_of};
 ghost use Rattle.arrow2_types.specs.declared.growth_error.GrowthError.TheVariants as growth_error;
 
@@ -496,9 +496,8 @@ impl<O: Offset> TryFrom<Vec<O>> for Offsets<O> {
     type Error = Error;
 
     ghost try_from_gives = { λ vector r. MatchResult r (λ o. AreOffsets (map O.value vector.items)
-        × (o ≡ offsets_of_vec O.value vector)) (λ e.
-        ¬ AreOffsets (map O.value vector.items)
-        × IsOutOfSpecOrOutOfMemory e (not_offsets_message (map O.value vector.items))) };
+        × (o ≡ offsets_of_vec O.value vector))
+        (λ e. RejectsNumbers e (map O.value vector.items)) };
 
     fn try_from(offsets: Vec<O>) -> Result<Self> {
         try_check_offsets(*offsets.allocator(), offsets.as_slice())?;
