@@ -1,5 +1,5 @@
 -- The effect of each command on boolean arrays on the machine of lists.
-use Rattle.std.specs.Prelude.{ℕ, ◌==◌, Bool, List, length, map, Option, Some, None, option_map, Result, Ok, Err, if◌then◌else◌}
+use Rattle.std.specs.Prelude.{ℕ, ◌==◌, Bool, List, length, map, Option, Some, None, Result, Ok, Err, if◌then◌else◌}
 use Rattle.std.specs.Fmt.{decimal}
 use Rattle.arrow2.specs.Items.{nulls}
 use Rattle.arrow2.specs.Kleene.{kleene_and, kleene_or, by_items}
@@ -15,12 +15,12 @@ use Rattle.arrow2_machine.specs.Replies.{array_items_text}
 
 -- a boolean array: its values are the items of one slot, and it is null where the items of another slot are false;
 -- without another slot no item is null
-abbrev pub after_new_array : SlotValue → Option SlotValue → Result SlotValue LineError
-after_new_array values None = do
-  items ← frozen_list values
+abbrev pub after_new_array : List SlotValue → ℕ → Option ℕ → Result SlotValue LineError
+after_new_array slots values None = do
+  items ← frozen_list (at slots values)
   Ok (Array (map (λ item. Some item) items))
-after_new_array values (Some validity) = do
-  lists ← two_lists values validity
+after_new_array slots values (Some validity) = do
+  lists ← two_lists slots values validity
   Ok (Array (zipped lists.0 lists.1))
 
 -- the text of a slot's boolean array
@@ -42,26 +42,26 @@ after_array_slice held i n = do
   inside ← part_inside items i n
   Ok (Array inside)
 
--- two boolean arrays of equal length
-abbrev pub two_arrays : SlotValue → SlotValue → Result (List (Option Bool) × List (Option Bool)) LineError
-two_arrays a b = do
-  x ← array a
-  y ← array b
+-- the boolean arrays of two slots, which must have equal lengths
+abbrev pub two_arrays : List SlotValue → ℕ → ℕ → Result (List (Option Bool) × List (Option Bool)) LineError
+two_arrays slots a b = do
+  x ← array (at slots a)
+  y ← array (at slots b)
   if length x == length y then Ok (x, y) else Err Length
 
--- the array that an operator of Kleene's logic makes from two boolean arrays, item by item
-abbrev pub after_kleene : (Option Bool → Option Bool → Option Bool) → SlotValue → SlotValue → Result SlotValue LineError
-after_kleene operator a b = do
-  arrays ← two_arrays a b
+-- the array that an operator of Kleene's logic makes from the boolean arrays of two slots, item by item
+abbrev pub after_kleene : (Option Bool → Option Bool → Option Bool) → List SlotValue → ℕ → ℕ → Result SlotValue LineError
+after_kleene operator slots a b = do
+  arrays ← two_arrays slots a b
   Ok (Array (by_items operator arrays.0 arrays.1))
 
 -- the slots after a command on boolean arrays, and its reply
 unfoldable pub array_outcome : List SlotValue → ArrayCommand → Result (List SlotValue × List ℕ) LineError
-array_outcome slots (command.New d v m) = with_slot slots d (after_new_array (at slots v) (option_map (at slots) m))
+array_outcome slots (command.New d v m) = with_slot slots d (after_new_array slots v m)
 array_outcome slots (command.List s) = with_reply slots (array_reply (at slots s))
 array_outcome slots (command.Nulls s) = do
   number ← null_count (at slots s)
   Ok (slots, decimal number)
 array_outcome slots (command.Slice s i n) = with_slot slots s (after_array_slice (at slots s) i n)
-array_outcome slots (command.And d a b) = with_slot slots d (after_kleene kleene_and (at slots a) (at slots b))
-array_outcome slots (command.Or d a b) = with_slot slots d (after_kleene kleene_or (at slots a) (at slots b))
+array_outcome slots (command.And d a b) = with_slot slots d (after_kleene kleene_and slots a b)
+array_outcome slots (command.Or d a b) = with_slot slots d (after_kleene kleene_or slots a b)

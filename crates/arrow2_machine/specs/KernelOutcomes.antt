@@ -9,55 +9,55 @@ use Rattle.arrow2_machine.specs.declared.line_error.LineError.{LineError}
 use Rattle.arrow2_machine.specs.declared.line_error.LineError.TheVariants.{Length}
 use Rattle.arrow2_machine.specs.SlotValues.{SlotValue, Frozen, Growing, ◌>>=◌, at, growing_list, frozen_list, with_slot}
 
--- two frozen lists of equal length
-abbrev pub two_lists : SlotValue → SlotValue → Result (List Bool × List Bool) LineError
-two_lists a b = do
-  x ← frozen_list a
-  y ← frozen_list b
+-- the frozen lists of two slots, which must have equal lengths
+abbrev pub two_lists : List SlotValue → ℕ → ℕ → Result (List Bool × List Bool) LineError
+two_lists slots a b = do
+  x ← frozen_list (at slots a)
+  y ← frozen_list (at slots b)
   if length x == length y then Ok (x, y) else Err Length
 
--- three of them
-abbrev pub three_lists : SlotValue → SlotValue → SlotValue → Result (List Bool × List Bool × List Bool) LineError
-three_lists a b c = do
-  x ← frozen_list a
-  y ← frozen_list b
-  z ← frozen_list c
+-- those of three slots
+abbrev pub three_lists : List SlotValue → ℕ → ℕ → ℕ → Result (List Bool × List Bool × List Bool) LineError
+three_lists slots a b c = do
+  x ← frozen_list (at slots a)
+  y ← frozen_list (at slots b)
+  z ← frozen_list (at slots c)
   if length x == length y && length x == length z then Ok (x, y, z) else Err Length
 
--- four of them
-abbrev pub four_lists : SlotValue → SlotValue → SlotValue → SlotValue → Result (List Bool × List Bool × List Bool × List Bool) LineError
-four_lists a b c e = do
-  x ← frozen_list a
-  y ← frozen_list b
-  z ← frozen_list c
-  v ← frozen_list e
+-- those of four slots
+abbrev pub four_lists : List SlotValue → ℕ → ℕ → ℕ → ℕ → Result (List Bool × List Bool × List Bool × List Bool) LineError
+four_lists slots a b c e = do
+  x ← frozen_list (at slots a)
+  y ← frozen_list (at slots b)
+  z ← frozen_list (at slots c)
+  v ← frozen_list (at slots e)
   if length x == length y && length x == length z && length x == length v then Ok (x, y, z, v) else Err Length
 
 -- the outputs of a table for the items of one slot, and for those of two
-abbrev pub table_of_one : ℕ → SlotValue → Result (List Bool) LineError
-table_of_one t a = do
-  items ← frozen_list a
+abbrev pub table_of_one : ℕ → List SlotValue → ℕ → Result (List Bool) LineError
+table_of_one t slots a = do
+  items ← frozen_list (at slots a)
   Ok (each t (items ∷ []))
 
-abbrev pub table_of_two : ℕ → SlotValue → SlotValue → Result (List Bool) LineError
-table_of_two t a b = do
-  lists ← two_lists a b
+abbrev pub table_of_two : ℕ → List SlotValue → ℕ → ℕ → Result (List Bool) LineError
+table_of_two t slots a b = do
+  lists ← two_lists slots a b
   Ok (each t (lists.0 ∷ lists.1 ∷ []))
 
 -- the list that an operator or a table makes; the operators are tables too: `and` is the table whose only set bit is
 -- that of two true inputs
 unfoldable pub kernel_items : List SlotValue → Kernel → Result (List Bool) LineError
-kernel_items slots (kernel.And a b) = table_of_two 8 (at slots a) (at slots b)
-kernel_items slots (kernel.Or a b) = table_of_two 14 (at slots a) (at slots b)
-kernel_items slots (kernel.Xor a b) = table_of_two 6 (at slots a) (at slots b)
-kernel_items slots (kernel.Not a) = table_of_one 1 (at slots a)
-kernel_items slots (kernel.Unary t a) = table_of_one t (at slots a)
-kernel_items slots (kernel.Binary t a b) = table_of_two t (at slots a) (at slots b)
+kernel_items slots (kernel.And a b) = table_of_two 8 slots a b
+kernel_items slots (kernel.Or a b) = table_of_two 14 slots a b
+kernel_items slots (kernel.Xor a b) = table_of_two 6 slots a b
+kernel_items slots (kernel.Not a) = table_of_one 1 slots a
+kernel_items slots (kernel.Unary t a) = table_of_one t slots a
+kernel_items slots (kernel.Binary t a b) = table_of_two t slots a b
 kernel_items slots (kernel.Ternary t a b c) = do
-  lists ← three_lists (at slots a) (at slots b) (at slots c)
+  lists ← three_lists slots a b c
   Ok (each t (lists.0 ∷ lists.1 ∷ lists.2 ∷ []))
 kernel_items slots (kernel.Quaternary t a b c e) = do
-  lists ← four_lists (at slots a) (at slots b) (at slots c) (at slots e)
+  lists ← four_lists slots a b c e
   Ok (each t (lists.0 ∷ lists.1 ∷ lists.2 ∷ lists.3 ∷ []))
 
 -- a slot after its items become the outputs of a table for them

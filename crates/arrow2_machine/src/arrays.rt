@@ -1,7 +1,7 @@
 //! The commands on boolean arrays: the effect of each on its slots, and its reply.
-ghost use Rattle.std.specs.Prelude.{◌≡◌, length, option_map, OnErr, IfOk};
+ghost use Rattle.std.specs.Prelude.{◌≡◌, length, OnErr, IfOk};
 ghost use Rattle.arrow2_machine.specs.BitmapOutcomes.{part_inside};
-ghost use Rattle.arrow2_machine.specs.SlotValues.{at, array as array_in, Array};
+ghost use Rattle.arrow2_machine.specs.SlotValues.{array as array_in, Array};
 ghost use Rattle.arrow2_machine.specs.ArrayOutcomes.{after_new_array, array_reply, null_count, after_array_slice, two_arrays, after_kleene, array_outcome};
 ghost use Rattle.arrow2.specs.Items.{boolean_items};
 ghost use Rattle.arrow2.specs.Kleene.{kleene_and, kleene_or};
@@ -60,7 +60,7 @@ fn array_of(
     validity: Option<SlotIndex>,
 ) -> Result<BooleanArray, CommandError>
     ensures { Gives (λ array. Array (boolean_items array)) result
-        (after_new_array (at slots.now values) (option_map (at slots.now) validity)) }
+        (after_new_array slots.now values validity) }
 {
     let array = match validity {
         Some(validity) => {
@@ -83,7 +83,7 @@ fn and_kleene(
     right: SlotIndex,
 ) -> Result<BooleanArray, CommandError>
     ensures { Gives (λ array. Array (boolean_items array)) result
-        (after_kleene kleene_and (at slots.now left) (at slots.now right)) }
+        (after_kleene kleene_and slots.now left right) }
 {
     let (left, right) = two_boolean_arrays(slots, left, right)?;
     Ok(left.and_kleene(right)?)
@@ -100,7 +100,7 @@ fn or_kleene(
     right: SlotIndex,
 ) -> Result<BooleanArray, CommandError>
     ensures { Gives (λ array. Array (boolean_items array)) result
-        (after_kleene kleene_or (at slots.now left) (at slots.now right)) }
+        (after_kleene kleene_or slots.now left right) }
 {
     let (left, right) = two_boolean_arrays(slots, left, right)?;
     Ok(left.or_kleene(right)?)
@@ -117,7 +117,7 @@ fn two_boolean_arrays(
     second: SlotIndex,
 ) -> Result<(&BooleanArray, &BooleanArray), LineError>
     ensures gives { MatchesMachine (λ a. (boolean_items a.0.now, boolean_items a.1.now)) result
-        (two_arrays (at slots.now first) (at slots.now second)) }
+        (two_arrays slots.now first second) }
     ensures same_length { IfOk result (λ a. length (boolean_items a.0.now) ≡ length (boolean_items a.1.now)) }
 {
     let first = slots[first.get()].array()?;

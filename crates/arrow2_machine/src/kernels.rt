@@ -2,7 +2,7 @@
 ghost use Rattle.std.specs.Prelude.{◌≡◌, [], ◌∷◌, length, OnErr, IfOk};
 ghost use Rattle.arrow2.specs.Storage.{items_of};
 ghost use Rattle.arrow2.specs.Tables.{each};
-ghost use Rattle.arrow2_machine.specs.SlotValues.{at, frozen_list as frozen_in};
+ghost use Rattle.arrow2_machine.specs.SlotValues.{frozen_list as frozen_in};
 ghost use Rattle.arrow2_machine.specs.KernelOutcomes.{two_lists, three_lists, four_lists, kernel_items, after_assign_unary, after_assign_binary, kernel_outcome};
 ghost use Rattle.arrow2_machine.specs.Outcomes.{Gives, Carries, MatchesMachine};
 
@@ -97,7 +97,7 @@ pub(crate) fn two_bitmaps(
     second: SlotIndex,
 ) -> Result<(&Bitmap, &Bitmap), LineError>
     ensures gives { MatchesMachine (λ b. (items_of b.0.now, items_of b.1.now)) result
-        (two_lists (at slots.now first) (at slots.now second)) }
+        (two_lists slots.now first second) }
     ensures same_length { IfOk result (λ b. length (items_of b.0.now) ≡ length (items_of b.1.now)) }
 {
     let first = slots[first.get()].frozen_bitmap()?;
@@ -121,7 +121,7 @@ fn three_bitmaps(
     third: SlotIndex,
 ) -> Result<(&Bitmap, &Bitmap, &Bitmap), LineError>
     ensures gives { MatchesMachine (λ b. (items_of b.0.now, items_of b.1.now, items_of b.2.now)) result
-        (three_lists (at slots.now first) (at slots.now second) (at slots.now third)) }
+        (three_lists slots.now first second third) }
     ensures same_length2 { IfOk result (λ b. length (items_of b.0.now)
         ≡ length (items_of b.1.now)) }
     ensures same_length3 { IfOk result (λ b. length (items_of b.0.now)
@@ -154,8 +154,7 @@ fn four_bitmaps(
       items_of b.1.now,
       items_of b.2.now,
       items_of b.3.now,
-    )) result (four_lists (at slots.now first) (at slots.now second)
-        (at slots.now third) (at slots.now fourth)) }
+    )) result (four_lists slots.now first second third fourth) }
     ensures same_length2 { IfOk result (λ b. length (items_of b.0.now)
         ≡ length (items_of b.1.now)) }
     ensures same_length3 { IfOk result (λ b. length (items_of b.0.now)
