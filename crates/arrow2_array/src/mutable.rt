@@ -62,11 +62,12 @@ impl MutableBooleanArray {
     ///
     /// # Errors
     ///
-    /// `OutOfMemory` alone.
+    /// `OutOfMemory` alone. It never comes for a capacity of 0.
     pub fn with_capacity(alloc: Global, capacity: usize) -> Result<MutableBooleanArray>
         ensures ok { IfOk result (λ a. a.items ≡ []) }
         ensures capacity { IfOk result (λ a. capacity ≤ a.capacity) }
         ensures only { IfErr result (λ e. e ≡ Error.OutOfMemory) }
+        ensures succeeds { capacity ≡ 0 → IsOk result }
     {
         Ok(MutableBooleanArray {
             values: MutableBitmap::with_capacity(alloc, capacity)?,

@@ -111,11 +111,12 @@ impl MutableBitmap {
     ///
     /// # Errors
     ///
-    /// `OutOfMemory` alone.
+    /// `OutOfMemory` alone. It never comes for a capacity of 0.
     pub fn with_capacity(alloc: Global, capacity: usize) -> Result<MutableBitmap>
         ensures ok { IfOk result (λ m. m.items ≡ []) }
         ensures capacity { IfOk result (λ m. capacity ≤ m.capacity) }
         ensures only { IfErr result (λ e. e ≡ Error.OutOfMemory) }
+        ensures succeeds { capacity ≡ 0 → IsOk result }
     {
         let bits = PackedBits::with_capacity(alloc, capacity)?;
         Ok(MutableBitmap { bits })
@@ -149,8 +150,8 @@ impl MutableBitmap {
         Ok(MutableBitmap::from_vec(ones, len))
     }
 
-    /// Returns the bitmap of the items of an iterator, in its order. Requires that the iterator ends, and that the
-    /// `requires` of its `next` holds until then.
+    /// Returns the bitmap of the items of an iterator, in its order. Requires that the iterator ends, and that its
+    /// `next` may be called: by std's contract of iterators it may then be called until the end.
     ///
     /// Stands for arrow2's `FromIterator`, which allocates by the size hint. Here the size hint is not read.
     ///
@@ -286,12 +287,13 @@ impl MutableBitmap {
         Ok(())
     }
 
-    /// Frees unused capacity if the allocator can: no clause states that any is freed. Always returns `Ok`, also if a
-    /// smaller block cannot be allocated. arrow2 returns no `Result`.
+    /// Frees all capacity where there is no item. Else frees unused capacity if the allocator can; no clause states
+    /// that any is freed. Always returns `Ok`, also if a smaller block cannot be allocated. arrow2 returns no `Result`.
     pub fn shrink_to_fit(&mut self) -> Result<()>
         ensures ok { IsOk result }
         ensures items { self.new.items ≡ self.old.items }
         ensures capacity { self.new.capacity ≤ self.old.capacity }
+        ensures frees { self.old.items ≡ [] → self.new.capacity ≡ 0 }
     {
         self.bits.shrink_to_fit();
         Ok(())
@@ -435,11 +437,11 @@ impl MutableBitmap {
     }
 }
 
-/// A copy of the items.
+/// A copy of the items. Nothing is stated of its capacity.
 ///
 /// # Errors
 ///
-/// If an allocation fails.
+/// `AllocError`. In the code it comes only if an allocation fails; no clause states that.
 impl Clone for MutableBitmap {
     ghost is_clone = { λ a b. b.items ≡ a.items };
 

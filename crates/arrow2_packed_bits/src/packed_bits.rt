@@ -69,10 +69,11 @@ impl PackedBits {
     ///
     /// # Errors
     ///
-    /// If an allocation fails.
+    /// If an allocation fails. Does not allocate for a capacity of 0.
     pub fn with_capacity(alloc: Global, capacity: usize) -> Result<PackedBits, AllocError>
         ensures items { IfOk result (λ b. b.items ≡ []) }
         ensures capacity { IfOk result (λ b. capacity ≤ b.capacity) }
+        ensures succeeds { capacity ≡ 0 → IsOk result }
     {
         let bytes = Vec::with_capacity(alloc, bytes_for(capacity))?;
         Ok(PackedBits { bytes, length: 0 })
@@ -174,10 +175,12 @@ impl PackedBits {
         self.length.checked_add(additional)
     }
 
-    /// Gives back unused capacity, where the allocator takes it. No clause states how much.
+    /// Frees all capacity where there is no item. Else frees unused capacity if the allocator can; no clause states
+    /// that any is freed.
     pub fn shrink_to_fit(&mut self)
         ensures items { self.new.items ≡ self.old.items }
         ensures capacity { self.new.capacity ≤ self.old.capacity }
+        ensures frees { self.old.items ≡ [] → self.new.capacity ≡ 0 }
     {
         self.bytes.shrink_to_fit();
     }

@@ -378,12 +378,14 @@ impl<T: NativeType> MutablePrimitiveArray<T> {
         Some(is_valid.then_some(value))
     }
 
-    /// Frees unused capacity if the allocator can. Always returns `Ok`.
+    /// Frees all capacity where there is no item. Else frees unused capacity if the allocator can; no clause states
+    /// that any is freed. Always returns `Ok`.
     pub fn shrink_to_fit(&mut self) -> Result<()>
         ensures ok { IsOk result }
         ensures items { self.new.items ≡ self.old.items }
         ensures data_type { self.new.data_type ≡ self.old.data_type }
         ensures capacity { self.new.capacity ≤ self.old.capacity }
+        ensures frees { self.old.items ≡ [] → self.new.capacity ≡ 0 }
     {
         self.values.shrink_to_fit();
         self.validity.shrink_to_fit()

@@ -2,7 +2,7 @@
 ghost use Rattle.std.specs.Prelude.{◌≡◌, ◌+◌, ◌<◌, ◌≤◌, ◌↔◌, ◌⊎◌, [], None, Some, true, length, map, count_by, replicate, slice_index_or, sum, IsErrOf, IsNone, IfErr, IfOk, IsTrue, MatchOption, option_map, ⊤, IsOk};
 ghost use Rattle.std.specs.Option.{is_none, is_some, option_copied};
 ghost use Rattle.either.specs.Either.{MatchEither};
-ghost use Rattle.arrow2_model.specs.Buffers.{buffer_items};
+ghost use Rattle.arrow2_model.specs.Buffers.{buffer_items, whole_buffer};
 ghost use Rattle.arrow2_model.specs.Parts.{part};
 ghost use Rattle.arrow2_model.specs.Storage.{items_of};
 ghost use Rattle.arrow2_walks.specs.Zipped.{zipped};
@@ -352,8 +352,8 @@ impl<O: Offset> BinaryArray<O> {
     ///
     /// # Errors
     ///
-    /// `OutOfMemory` alone, and only where the offsets begin at 0 and end after the last byte. The array is then
-    /// dropped. In the code it comes only if the offsets have no other owner and are not sliced, and one of these
+    /// `OutOfMemory` alone, and only where the offsets are not sliced, begin at 0 and end after the last byte. The
+    /// array is then dropped. In the code it comes only if the offsets also have no other owner, and one of these
     /// holds:
     ///
     /// - there is no bitmap;
@@ -367,6 +367,7 @@ impl<O: Offset> BinaryArray<O> {
         // not sliced, and the bitmap, if there is one, begins at bit 0.
         ensures whole { IfOk result (λ r. MatchEither r (λ _. ⊤) (λ _. IsWhole self × IsUnsliced self)) }
         ensures succeeds { ¬ IsWhole self → IsOk result }
+        ensures sliced { ¬ (self.offsets ≡ whole_buffer self.offsets.storage) → IsOk result }
         ensures only { IfErr result (λ e. e ≡ Error.OutOfMemory) }
     {
         match self.slots.into_mut()? {

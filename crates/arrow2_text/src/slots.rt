@@ -284,6 +284,7 @@ impl<O: Offset> Slots<O> {
         // not sliced, and the bitmap, if there is one, begins at bit 0.
         ensures whole { IfOk result (λ r. MatchEither r (λ _. ⊤) (λ _. IsWhole self × IsUnsliced self)) }
         ensures succeeds { ¬ IsWhole self → IsOk result }
+        ensures sliced { ¬ (self.offsets ≡ whole_buffer self.offsets.storage) → IsOk result }
         ensures only { IfErr result (λ e. e ≡ Error.OutOfMemory) }
     {
         let (first, last) = (self.offsets.first(), self.offsets.last());
