@@ -1,8 +1,17 @@
-//! A law on what a buffer holds after a mutable borrow of its items has ended. A law is the contract of a function with
-//! an empty body.
-ghost use Rattle.std.specs.Prelude.{◌≡◌, ◌+◌, ◌≤◌, List, length, take, drop};
+//! Laws of slices of buffers, and of what a buffer holds after a mutable borrow of its items has ended. A law is the
+//! contract of a function with an empty body.
+ghost use Rattle.std.specs.Prelude.{◌≡◌, ℕ, ◌+◌, ◌≤◌, List, length, take, drop};
 ghost use Rattle.arrow2_model.specs.Buffers.{BufferStorage, buffer_items};
+ghost use Rattle.arrow2_model.specs.Parts.{part};
 ghost use Rattle.arrow2_buffer.specs.Loans.{overwrite_lent};
+
+/// A slice of a slice has the items of one slice, which starts at the sum of both indices: a part of a part of a list
+/// is a part of that list.
+#[tactic(auto, using(crate::proofs::Part::slicing))]
+pub fn slice_of_a_slice<T>()
+    ensures { (items : List T) (a n b m : ℕ) → b + m ≤ n →
+        part (part items a n) b m ≡ part items (a + b) m }
+{}
 
 /// When a mutable borrow of a buffer's items has ended, the items of the buffer are those that were written, and the
 /// items of the storage to the left and to the right of the buffer are unchanged.

@@ -1,6 +1,8 @@
 -- The laws of offsets.
-use Rattle.std.proofs.Common.{◌≡◌, ◌↔◌, ℕ, ◌+◌, ◌≤◌, List, ◌∷◌, ◌++◌, map, length, ap, sym, ◌∙◌, arith}
+use Rattle.std.proofs.Common.{◌≡◌, ◌↔◌, ℕ, ℤ, ◌+◌, ◌≤◌, List, ◌∷◌, ◌++◌, map, length, ap, sym, ◌∙◌, arith}
+use Rattle.std.proofs.Math.Seq.{take-length}
 use Rattle.std.specs.Prelude.{pos}
+use Rattle.arrow2_model.specs.Buffers.{BufferStorage, buffer_items, whole_buffer}
 use Rattle.arrow2_offset.specs.Offsets.{running_sums, offsets_list, offset_at, last_offset, start_of, lengths_of, GrowingOffsets, SameOffsets, offsets_of}
 use Rattle.arrow2_offset.proofs.OffsetLists.{spelled, AreOffsets-list, lengths_of-list, start_of-list, running_sums-append, length-running_sums, get_or-offsets_list}
 use Rattle.arrow2_offset.proofs.Growing.{sum-take-le}
@@ -26,4 +28,8 @@ distinguished a b ms ns = (
 pub there_and_back : (a b c : GrowingOffsets) → SameOffsets a b → SameOffsets b c → offsets_of c ≡ offsets_of a
 there_and_back a b c d e = ap (λ s. offsets_list s c.lengths) (e.0 ∙ d.0) ∙ ap (offsets_list a.start) (e.1 ∙ d.1)
 
-pub ruleset listed = (spelled, AreOffsets-list, lengths_of-list, start_of-list, get_or-offsets_list, at_most_last, length-offsets_list, append-offsets_list, distinguished, there_and_back)
+-- and a shared list, copied twice
+pub copied_back : (a b c : BufferStorage ℤ) → b ≡ whole_buffer (buffer_items a) → c ≡ whole_buffer (buffer_items b) → buffer_items c ≡ buffer_items a
+copied_back a b c d e = ap buffer_items e ∙ (take-length (buffer_items b) ∙ (ap buffer_items d ∙ take-length (buffer_items a)))
+
+pub ruleset listed = (spelled, AreOffsets-list, lengths_of-list, start_of-list, get_or-offsets_list, at_most_last, length-offsets_list, append-offsets_list, distinguished, there_and_back, copied_back)

@@ -1,5 +1,6 @@
 //! Laws of the definitions of offsets. Each is the contract of a function with an empty body.
 ghost use Rattle.std.specs.Prelude.{◌≡◌, ℕ, ℤ, ◌+◌, ◌≤◌, ◌++◌, ◌↔◌, List, length, map, pos, slice_index_or};
+ghost use Rattle.arrow2_model.specs.Buffers.{BufferStorage, buffer_items, whole_buffer};
 ghost use Rattle.arrow2_offset.specs.Offsets.{running_sums, offsets_list, offset_at, last_offset, AreOffsets, start_of, lengths_of, GrowingOffsets, SameOffsets, offsets_of};
 
 /// A list of signed numbers is a list of offsets exactly if it is the `offsets_list` of some start and some lengths.
@@ -45,10 +46,13 @@ pub fn lists_tell_starts_and_lengths_apart()
 {}
 
 /// If `wide` has the same offsets as `narrow`, and `back` the same as `wide`, then `back` and `narrow` are the same
-/// list. So, by the contracts of both conversions of `Offsets`, offsets of 32 bits that are converted to 64 bits and
-/// back are the same list as before, where both succeed.
+/// list. So, by the contracts of both conversions of `Offsets` and of both of `OffsetsBuffer`, offsets of 32 bits that
+/// are converted to 64 bits and back are the same list as before, where both succeed.
 #[tactic(auto, using(crate::proofs::OffsetLaws::listed))]
 pub fn offsets_converted_back_are_equal()
-    ensures { (narrow wide back : GrowingOffsets) → SameOffsets narrow wide →
+    ensures growing { (narrow wide back : GrowingOffsets) → SameOffsets narrow wide →
         SameOffsets wide back → offsets_of back ≡ offsets_of narrow }
+    ensures shared { (narrow wide back : BufferStorage ℤ) →
+        wide ≡ whole_buffer (buffer_items narrow) → back ≡ whole_buffer (buffer_items wide) →
+        buffer_items back ≡ buffer_items narrow }
 {}
