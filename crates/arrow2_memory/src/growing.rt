@@ -113,9 +113,15 @@ fn reserve_and_shrink(bitmap: &mut MutableBitmap) -> Result<()> {
     bitmap.shrink_to_fit()
 }
 
-/// Each way in which an empty bitmap grows.
+/// The growing bitmap of one byte of items. The items of a copy fill its capacity, so each way to grow allocates.
+fn eight_items(alloc: Global) -> Result<MutableBitmap> {
+    let items = [true, false, false, true, true, false, true, false];
+    MutableBitmap::from_bools(alloc, &items)
+}
+
+/// Each way in which a bitmap grows.
 fn grow_each_way<R: Print + Eprint>(rt: &R, alloc: Global) -> Result<()> {
-    let empty = MutableBitmap::new(alloc);
+    let before = eight_items(alloc).or(eight_items(alloc))?;
     let other = items(alloc, 1).or(items(alloc, 1))?;
     for growth in &[
         Growth::Push,
@@ -126,7 +132,7 @@ fn grow_each_way<R: Print + Eprint>(rt: &R, alloc: Global) -> Result<()> {
         Growth::Reserve,
         Growth::ShrinkToFit,
     ] {
-        show_change(rt, &empty, growth)?;
+        show_change(rt, &before, growth)?;
     }
     Ok(())
 }

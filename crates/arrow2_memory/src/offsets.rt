@@ -205,11 +205,11 @@ fn grow_and_show<R: Print + Eprint>(
     Ok(())
 }
 
-/// Each way in which offsets without a length grow.
-fn grown_from_none<R: Print + Eprint>(rt: &R, alloc: Global) -> Result<()> {
-    let none = Offsets::new(alloc).or(Offsets::new(alloc))?;
-    grow_and_show(rt, &none, &shared_five(alloc).or(shared_five(alloc))?)?;
-    show_change(rt, &none, &five(alloc).or(five(alloc))?)
+/// Each way in which offsets of five lengths grow.
+fn grown_from_five<R: Print + Eprint>(rt: &R, alloc: Global) -> Result<()> {
+    let before = five(alloc).or(five(alloc))?;
+    grow_and_show(rt, &before, &shared_five(alloc).or(shared_five(alloc))?)?;
+    show_change(rt, &before, &before)
 }
 
 /// Makes each of these calls.
@@ -220,5 +220,5 @@ pub(crate) fn all<R: Print + Eprint>(rt: &R, alloc: Global) -> Result<()> {
     show_results(rt, &wide_offsets(alloc), &wide_offsets(alloc));
     show_results(rt, &shared_offsets(alloc), &shared_offsets(alloc));
     show_results(rt, &shared_wide_offsets(alloc), &shared_wide_offsets(alloc));
-    grown_from_none(rt, alloc)
+    grown_from_five(rt, alloc)
 }

@@ -133,8 +133,8 @@ fn apply(lhs: MutableBitmap, operator: Operator, rhs: &Bitmap) -> MutableBitmap 
     }
 }
 
-/// The operators that change their left side in place, and those that take it by value.
-fn operators<R: Print>(rt: &R, mut lhs: MutableBitmap, rhs: &Bitmap) {
+/// The operators that change their left side in place, and those that take it by value. Returns the left side.
+fn operators<R: Print>(rt: &R, mut lhs: MutableBitmap, rhs: &Bitmap) -> MutableBitmap {
     assign(&mut lhs, Operator::Xor, rhs);
     show(rt, "^=", &lhs);
     assign(&mut lhs, Operator::Or, rhs);
@@ -149,11 +149,22 @@ fn operators<R: Print>(rt: &R, mut lhs: MutableBitmap, rhs: &Bitmap) {
     show(rt, "&", &lhs);
     lhs = apply(lhs, Operator::Or, rhs);
     show(rt, "|", &lhs);
+    lhs
 }
 
 /// The inputs of changes in place.
 fn sides(alloc: Global) -> Result<(MutableBitmap, Bitmap)> {
     Ok((growing_items(alloc)?, items(alloc, 3)?))
+}
+
+/// Other right sides: one that begins with a byte, one whose items are all false, and one whose items are all true.
+fn right_sides(alloc: Global) -> Result<(Bitmap, Bitmap, Bitmap)> {
+    let trues = input(MutableBitmap::from_len_set(alloc, 70))?;
+    Ok((
+        items(alloc, 0)?,
+        input(Bitmap::new_zeroed(alloc, 70))?,
+        input(Bitmap::try_from(trues))?,
+    ))
 }
 
 /// The inputs of pushes.
@@ -175,6 +186,7 @@ fn values_to_clone(alloc: Global) -> Result<(BooleanArray, OffsetsBuffer<i32>)> 
 /// Makes each of these calls.
 pub(crate) fn all<R: Print + Eprint>(rt: &R, alloc: Global) -> Result<()> {
     let (mut lhs, rhs) = sides(alloc).or(sides(alloc))?;
+    let (aligned, falses, trues) = right_sides(alloc).or(right_sides(alloc))?;
     let (mut bitmap, mut offsets) = empty_with_capacity(alloc).or(empty_with_capacity(alloc))?;
     let mut options = array_with_capacity(alloc).or(array_with_capacity(alloc))?;
     let (array, shared) = values_to_clone(alloc).or(values_to_clone(alloc))?;
@@ -188,6 +200,9 @@ pub(crate) fn all<R: Print + Eprint>(rt: &R, alloc: Global) -> Result<()> {
     words::<_, u16>(rt, &mut lhs, &rhs);
     words::<_, u32>(rt, &mut lhs, &rhs);
     words::<_, u64>(rt, &mut lhs, &rhs);
-    operators(rt, lhs, &rhs);
+    lhs = operators(rt, lhs, &rhs);
+    lhs = operators(rt, lhs, &aligned);
+    lhs = operators(rt, lhs, &falses);
+    let _ = operators(rt, lhs, &trues);
     Ok(())
 }

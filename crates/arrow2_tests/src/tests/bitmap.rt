@@ -134,6 +134,12 @@ fn items_are_read_and_written(rt: HostRuntime) {
     let falses = [moved.null_count_range(1, 2), moved.null_count_range(4, 0)];
     has(&rt, &falses, &[1, 0]);
     is_left(&rt, alloc, moved, &items);
+    is_left(
+        &rt,
+        alloc,
+        ok(&rt, Bitmap::from_bools(alloc, &items)),
+        &items,
+    );
     let mut spare = ok(&rt, MutableBitmap::with_capacity(alloc, 100));
     assert_that(&rt, spare.is_empty());
     assert_that(&rt, spare.capacity() >= 100);

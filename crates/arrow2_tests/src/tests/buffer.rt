@@ -4,7 +4,7 @@ ghost use Rattle.std.specs.Bool.{OnTrue, OnFalse};
 ghost use Rattle.arrow2_model.specs.Buffers.{buffer_items, whole_buffer};
 
 use super::checks::{assert_that, has, left_value, ok, right, shows};
-use arrow2_buffer::laws::written_items_are_the_items;
+use arrow2_buffer::laws::{slice_of_a_slice, written_items_are_the_items};
 use arrow2_buffer::{Buffer, Bytes, IntoIter};
 use arrow2_types::{Error, Result};
 use std::alloc::Global;
@@ -80,6 +80,7 @@ fn only_an_unshared_buffer_is_written(rt: HostRuntime) {
     let (storage, _, _) = part.into_inner();
     has(&rt, storage.as_slice(), &[1, 7, 7]);
     written_items_are_the_items::<u32>();
+    slice_of_a_slice::<u32>();
 }
 
 /// Shows a fact for a caller of `try_from_iter`: the items of the iterator.

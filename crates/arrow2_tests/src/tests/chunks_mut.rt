@@ -1,5 +1,5 @@
 //! Chunks that are lent to be written, and the lender's bytes afterwards.
-ghost use Rattle.std.specs.Prelude.{◌≡◌, length, replicate};
+ghost use Rattle.std.specs.Prelude.{◌≡◌, ◌≤◌, length, replicate};
 ghost use Rattle.std.specs.Bool.{OnTrue};
 ghost use Rattle.arrow2_bits.specs.ChunksMut.{past};
 
@@ -28,9 +28,9 @@ fn clear_next<T>(chunks: &mut BitChunksExactMut<'_, T>) -> bool
     chunks.change_next(|chunk| clear(chunk))
 }
 
-/// Iterates over the first five of seven bytes by chunks of two bytes. The fifth byte is the remainder.
+/// Iterates over the first five bytes by chunks of two bytes. The fifth byte is the remainder.
 fn iterator_over(bytes: &mut [u8]) -> BitChunksExactMut<'_, u16>
-    requires { length bytes.old ≡ 7 }
+    requires { 5 ≤ length bytes.old }
 {
     BitChunksExactMut::new(bytes, 35)
 }
@@ -72,8 +72,28 @@ fn writes_iterated(rt: &impl Abort, first: &[u8], second: &[u8], after: &[u8]) {
     is_written(rt, chunks.next(), &[1, 2], first);
     is_written(rt, chunks.next(), &[3, 4], second);
     assert_that(rt, chunks.next().is_none());
+    has(rt, &[chunks.remainder_len()], &[3]);
     has(rt, chunks.remainder(), &[5]);
     has(rt, &bytes, after);
+}
+
+/// The same, over five bytes: by `next_chunk`, and by the iterator over fresh bytes.
+fn writes_whole_bytes(rt: &impl Abort, first: &[u8], second: &[u8], after: &[u8]) {
+    let mut bytes = [1, 2, 3, 4, 5];
+    let mut chunks = iterator_over(&mut bytes);
+    is_written(rt, chunks.next_chunk(), &[1, 2], first);
+    is_written(rt, chunks.next_chunk(), &[3, 4], second);
+    assert_that(rt, chunks.next_chunk().is_none());
+    has(rt, &[chunks.remainder_len()], &[3]);
+    has(rt, chunks.remainder(), &[5]);
+    has(rt, &bytes, after);
+    let mut fresh = [1, 2, 3, 4, 5];
+    let mut chunks = iterator_over(&mut fresh);
+    is_written(rt, chunks.next(), &[1, 2], first);
+    is_written(rt, chunks.next(), &[3, 4], second);
+    assert_that(rt, chunks.next().is_none());
+    has(rt, chunks.remainder(), &[5]);
+    has(rt, &fresh, after);
 }
 
 /// The same, by `change_next` and then by the iterator.
@@ -97,6 +117,7 @@ fn chunks_are_lent_to_be_written(rt: HostRuntime) {
     writes_next_chunks(&rt, &[0, 0], &[3, 4], after);
     changes_next(&rt, &[0, 0], &[3, 4], after);
     writes_iterated(&rt, &[0, 0], &[3, 4], after);
+    writes_whole_bytes(&rt, &[0, 0], &[3, 4], &[0, 0, 3, 4, 5]);
 }
 
 #[test]

@@ -108,7 +108,10 @@ fn capacity_is_reserved_and_given_back(rt: HostRuntime) {
 fn has_validity(rt: &impl Abort, alloc: Global, items: &[bool], is_there: bool) {
     let validity = grown_from(rt, alloc, items).into_validity();
     match ok(rt, validity) {
-        Some(validity) => gives(rt, alloc, validity.iter(), items),
+        Some(validity) => {
+            assert_that(rt, is_there);
+            gives(rt, alloc, validity.iter(), items);
+        }
         None => assert_that(rt, !is_there),
     }
 }

@@ -146,13 +146,9 @@ fn growth_by_others_and_by_empty_slots(rt: HostRuntime) {
 
 /// Offsets that hold one length, the greatest offset minus 1, grow by 1, and then only by 0.
 fn ends_at_its_greatest(rt: &impl Abort, mut large: Offsets<i64>) {
-    let results = [
-        large.try_push(1).is_ok(),
-        large.try_push(1).is_ok(),
-        large.try_push(0).is_ok(),
-    ];
-    has(rt, &results, &[true, false, true]);
+    ok(rt, large.try_push(1));
     overflows(rt, large.try_push(1));
+    ok(rt, large.try_push(0));
     let greatest = 9223372036854775807;
     makes(rt, Ok(large), &[0, greatest - 1, greatest, greatest]);
 }

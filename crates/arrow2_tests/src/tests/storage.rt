@@ -13,7 +13,7 @@ use arrow2_bits::BitChunkIterExact;
 use arrow2_chunk::BitChunk;
 use arrow2_tables::bitmap_ops::{quaternary, ternary};
 use arrow2_types::Result;
-use arrow2_walks::{SlicesIterator, ZipValidity};
+use arrow2_walks::{Pieces, SlicesIterator, ZipValidity};
 use std::alloc::Global;
 use std::convert::TryFrom;
 use std::process::Abort;
@@ -243,11 +243,30 @@ fn is_collected(rt: &impl Abort, (bitmap, list): Of) {
     is_validity_of(rt, ok(rt, bitmap.clone()).into_validity(), list);
 }
 
-/// Checks that a validity has the items, or that none of them is false where there is no validity.
+/// Checks that a validity has the items, and that it is there exactly where one of them is false.
 fn is_validity_of(rt: &impl Abort, validity: Option<Bitmap>, list: &[bool]) {
-    match validity {
-        Some(validity) => has_items(rt, &validity, list),
-        None => assert_that(rt, lists::trues(list) == list.len()),
+    assert_that(rt, validity.is_some() == (lists::trues(list) != list.len()));
+    if let Some(validity) = validity {
+        has_items(rt, &validity, list);
+    }
+}
+
+/// Checks that the pieces of a bitmap, joined, have the items of the list, and that they are cut at item `i`.
+fn are_pieces_of(rt: &impl Abort, pieces: &Pieces, list: &[bool], i: usize) {
+    assert_that(rt, pieces.len() == 2);
+    assert_that(rt, i <= list.len());
+    has_items(rt, pieces.get(0), &list[..i]);
+    has_items(rt, pieces.get(1), &list[i..]);
+}
+
+/// Cuts at each index.
+fn is_cut(rt: &impl Abort, (bitmap, list): Of) {
+    assert_that(rt, bitmap.len() == list.len());
+    for i in 0..list.len() + 1 {
+        let whole = ok(rt, bitmap.clone());
+        let mut pieces = ok(rt, Pieces::new(bitmap.allocator(), whole));
+        ok(rt, pieces.cut(0, i));
+        are_pieces_of(rt, &pieces, list, i);
     }
 }
 
@@ -284,6 +303,7 @@ fn is_its_list(rt: &impl Abort, bitmap: Of) {
     }
     is_appended(rt, bitmap);
     is_collected(rt, bitmap);
+    is_cut(rt, bitmap);
 }
 
 /// Makes the calls on two bitmaps.
