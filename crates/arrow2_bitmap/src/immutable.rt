@@ -99,6 +99,7 @@ impl Bitmap {
     /// text cannot be allocated. (No clause states that this is the only reason for `OutOfMemory`.) Otherwise
     /// `OutOfMemory` is the only error. After an error the bytes are dropped.
     pub fn try_new(bytes: Vec<u8>, len: usize) -> Result<Bitmap>
+        // By `accepted`, the call fails where `len` is too great. `rejected` states with which errors.
         ensures accepted { OnOk result (len ≤ 8 * vec_len bytes) }
         ensures ok { IfOk result (λ b. b ≡ record {
           bytes = bytes.items;
@@ -211,8 +212,8 @@ impl Bitmap {
         Bitmap::try_from(MutableBitmap::from_bools(alloc, items)?)
     }
 
-    /// Returns the bitmap of the items of an iterator, in its order. Requires that the iterator ends, and that the
-    /// `requires` of its `next` holds until then.
+    /// Returns the bitmap of the items of an iterator, in its order. Requires that the iterator ends, and that its
+    /// `next` may be called: by std's contract of iterators it may then be called until the end.
     ///
     /// Stands for arrow2's `FromIterator`, which allocates by the size hint. Here the size hint is not read.
     ///
@@ -406,16 +407,14 @@ impl Bitmap {
         )
     }
 
-    /// Returns an iterator over the items by words of `T`, from the first item on. In the contract, `spill` is the word
-    /// that `remainder` returns. Its lowest bits are the items after the full words. Above these, up to the width of
-    /// the word, come the stored bits that follow the last item: the rest of its byte and, where the bitmap has no full
-    /// word, the bytes after that byte. For an empty bitmap they are the stored bits from its bit offset on. All other
-    /// bits of the word are 0.
+    /// Returns an iterator over the items by words of `T`, from the first item on.
+    ///
+    /// In the contract, `spill` is the word that `remainder` returns. From its lowest bit on it has the items after the
+    /// full words, then stored bits that are no items, then zeros. The stored bits end with the byte of the last item
+    /// or, where the bitmap has no full word, with the last byte. Bits above the width of the word are left out.
     pub fn chunks<T: BitChunk>(&self) -> BitChunks<'_, T>
         ensures items { result.items ≡ items_of self.now }
         ensures fits { length (items_of self.now) < 2 ^ 64 }
-        // The word that `remainder` returns. Lowest bits: the items after the full words. Above them: the stored bits
-        // that follow them, as far as `spilled_bytes` goes. Then zeros.
         ensures spill { result.spill ≡ spill T.SIZE self.now.bytes
             self.now.offset self.now.len }
     {
@@ -473,8 +472,9 @@ impl Bitmap {
     }
 
     /// Slices as [`Bitmap::slice`] does, and adds to `reads` the number of bytes that it reads to count the false items
-    /// of the slice. It is proved that the number added is at most `L / 16 + 4`, where `L` is the number of items
-    /// before the call, but not that every byte that the call reads is included.
+    /// of the slice. It is proved that the number added is `slice_reads` of both ranges, and at most `L / 16 + 4`,
+    /// where `L` is the number of items before the call. No clause states that every byte that the call reads is
+    /// included.
     ///
     /// arrow2 counts no reads.
     pub fn slice_counted(&mut self, offset: usize, len: usize, reads: &mut Reads)

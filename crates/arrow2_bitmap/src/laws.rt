@@ -13,8 +13,7 @@ pub fn bytes_tell_growing_bitmaps_apart()
 {}
 
 /// A bitmap that is stored as `packed_storage` of the items of a growing one, as `TryFrom` stores it, has these items.
-/// Two growing bitmaps have equal items exactly if these storages are equal: equal bytes and equal lengths, with the
-/// items from bit 0 on.
+/// Two growing bitmaps have equal items exactly if the `packed_storage`s of their items are equal.
 #[tactic(auto, using(crate::proofs::Bytes::canonical))]
 pub fn equal_items_freeze_to_equal_bytes()
     ensures items { (m : GrowingBitmap) (a : BitmapStorage) →

@@ -50,9 +50,9 @@ impl<'a> Side<'a> {
 
 /// Writes AND, item by item: false where either is false, else null where either is null, else true.
 ///
-/// Returns `ARROW2_RANGE` exactly where the bits of any of the four inputs (values and validity of both sides) are not
-/// inside their bytes, else `ARROW2_LENGTH` exactly where `values` or `validity` does not have exactly the bytes that
-/// hold the items.
+/// Returns `ARROW2_RANGE` exactly where an offset plus `length` is above eight times the number of its bytes, also for
+/// a `length` of 0, else `ARROW2_LENGTH` exactly where `values` or `validity` does not have exactly the bytes that hold
+/// the items.
 #[unsafe(no_mangle)]
 pub extern "C" fn arrow2_and_kleene(
     lhs: &[u8],
@@ -112,9 +112,9 @@ pub extern "C" fn arrow2_or_kleene(
 /// Writes AND, item by item, as `arrow2_and_kleene` does. If `lhs_all_valid` is true, no item of the left side is null,
 /// and `lhs_validity` and its offset are ignored. The same holds for the right side.
 ///
-/// Returns `ARROW2_RANGE` exactly where the value bits of a side, or its validity bits if they are not ignored, are not
-/// inside their bytes, else `ARROW2_LENGTH` exactly where the output `values` or `validity` does not have exactly the
-/// bytes that hold the items.
+/// Returns `ARROW2_RANGE` exactly where an offset that is not ignored, plus `length`, is above eight times the number
+/// of its bytes, also for a `length` of 0, else `ARROW2_LENGTH` exactly where the output `values` or `validity` does
+/// not have exactly the bytes that hold the items.
 #[unsafe(no_mangle)]
 pub extern "C" fn arrow2_and_kleene_optional(
     lhs: &[u8],

@@ -7,7 +7,7 @@ use Rattle.arrow2_types.specs.declared.error.Error.{Error}
 use Rattle.arrow2_types.specs.declared.error.Error.TheVariants.{OutOfSpec, OutOfMemory}
 
 -- for a list that is not offsets, the first rule that it breaks: that there is a number; else that the first number is
--- not negative; else that no number is below the one before it
+-- not negative; else that no number is below the one before it, which is then the only rule left and needs no test
 abbrev pub first_broken_rule : List ℤ → BrokenRule
 first_broken_rule [] = Empty
 first_broken_rule (negsuc n ∷ xs) = Negative

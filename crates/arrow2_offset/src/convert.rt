@@ -10,7 +10,7 @@ use crate::widths::write_narrow;
 use arrow2_types::{Error, Result};
 use std::alloc::{AllocError, Global};
 
-/// Returns a copy of the same offsets, in 64 bits each.
+/// Returns a copy of the same offsets, in 64 bits each. The last one is at most 2147483647, since it had 32 bits.
 ///
 /// Stands for arrow2's `From`.
 ///
@@ -39,6 +39,7 @@ impl TryFrom<Offsets<i32>> for Offsets<i64> {
 impl TryFrom<Offsets<i64>> for Offsets<i32> {
     type Error = Error;
 
+    // The last line holds for every result.
     ghost try_from_gives = { λ offsets r. MatchResult r (λ o. SameOffsets offsets o) (λ e.
         (e ≡ Overflow) ⊎ (e ≡ OutOfMemory))
         × (IsErrOf r Overflow ↔ (2147483647 < last_of_growing offsets)) };
@@ -53,7 +54,7 @@ impl TryFrom<Offsets<i64>> for Offsets<i32> {
     }
 }
 
-/// Returns a copy of the same offsets, in 64 bits each.
+/// Returns a copy of the same offsets, in 64 bits each. The last one is at most 2147483647, since it had 32 bits.
 ///
 /// Stands for arrow2's `From`.
 ///
@@ -81,6 +82,7 @@ impl<'a> TryFrom<&'a OffsetsBuffer<i32>> for OffsetsBuffer<i64> {
 impl<'a> TryFrom<&'a OffsetsBuffer<i64>> for OffsetsBuffer<i32> {
     type Error = Error;
 
+    // The last line holds for every result.
     ghost try_from_gives = { λ offsets r. MatchResult r (λ b.
         b ≡ whole_buffer (buffer_items offsets.now)) (λ e. (e ≡ Overflow) ⊎ (e ≡ OutOfMemory))
         × (IsErrOf r Overflow ↔ (2147483647 < last_of (buffer_items offsets.now))) };

@@ -70,11 +70,11 @@ impl<O: Offset> OffsetsBuffer<O> {
         OffsetsBuffer::try_from(Offsets::new(alloc)?)
     }
 
-    /// Returns `Right` of offsets that grow, with the same list, or `Left` of the offsets as they were. `Right` comes
-    /// only if nothing is sliced off.
+    /// Returns `Right` of offsets that grow, with the same list, or `Left` of the offsets as they were. It is proved
+    /// that `Right` comes only if nothing is sliced off.
     ///
-    /// In the code, `Right` also comes only if nobody shares the storage, and always if both hold; the call does not
-    /// allocate. No clause states these three facts.
+    /// In the code, `Right` comes exactly if nothing is sliced off and nobody shares the storage, and the call does not
+    /// allocate. No clause states this.
     ///
     /// Differs from arrow2, which returns the whole storage, also where the offsets are sliced.
     pub fn into_mut(self) -> Either<Self, Offsets<O>>
@@ -120,6 +120,8 @@ impl<O: Offset> OffsetsBuffer<O> {
     /// Returns the offsets.
     pub fn as_slice(&self) -> &[O]
         ensures offsets { map O.value result.now ≡ buffer_items self.now }
+        // These three hold for every `OffsetsBuffer`. `by_lengths`: the offsets are the first one, and its sums with
+        // the first length, with the first two, and so on.
         ensures valid { AreOffsets (buffer_items self.now) }
         ensures by_lengths { buffer_items self.now
             ≡ map pos (offsets_list (start_of (buffer_items self.now))
@@ -265,8 +267,9 @@ impl<O: Offset> OffsetsBuffer<O> {
 ///
 /// # Errors
 ///
-/// Exactly where the items are not offsets: `OutOfSpec` with the text of the rule that they break, or `OutOfMemory`. In
-/// the code `OutOfMemory` comes only if that text cannot be allocated. After either error the buffer is dropped.
+/// Exactly where the items are not offsets: `OutOfSpec` with the text of the first rule of
+/// [`BrokenRule`](crate::BrokenRule) that they break, or `OutOfMemory`. In the code `OutOfMemory` comes only if that
+/// text cannot be allocated. After either error the buffer is dropped.
 impl<O: Offset> TryFrom<Buffer<O>> for OffsetsBuffer<O> {
     type Error = Error;
 
@@ -358,6 +361,7 @@ impl<O: Offset> PartialEq for OffsetsBuffer<O> {
     fn eq(&self, other: &Self) -> bool
         ensures value { result ≡ pointwise int_eq (buffer_items self.now) (buffer_items other.now) }
         ensures lists { IsTrue result ↔ (buffer_items self.now ≡ buffer_items other.now) }
+        // The same as `value`, for the lists that the first offsets and the lengths give.
         ensures by_lengths { let xs = buffer_items self.now in let ys = buffer_items other.now in
             result ≡ pointwise nat_eq (offsets_list (start_of xs) (lengths_of xs))
             (offsets_list (start_of ys) (lengths_of ys)) }

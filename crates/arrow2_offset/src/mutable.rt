@@ -114,7 +114,8 @@ impl<O: Offset> Offsets<O> {
     }
 
     /// Returns offsets that start at 0, with the lengths that an iterator yields. Requires that the iterator ends, and
-    /// that each call of its `next` meets the precondition of `next`. Does not read its size hint.
+    /// that its `next` may be called: by std's contract of iterators it may then be called until the end. Does not read
+    /// its size hint.
     ///
     /// # Errors
     ///
@@ -234,15 +235,17 @@ impl<O: Offset> Offsets<O> {
         Ok(())
     }
 
-    /// Appends the lengths that an iterator yields. Requires that the iterator ends, and that each call of its `next`
-    /// meets the precondition of `next`. Its size hint is not read. Within the capacity the call does not allocate.
+    /// Appends the lengths that an iterator yields. Requires that the iterator ends, and that its `next` may be called:
+    /// by std's contract of iterators it may then be called until the end. Its size hint is not read. Within the
+    /// capacity the call does not allocate.
     ///
     /// Differs from arrow2, which wraps in its sums, and which keeps the appended lengths where it returns `Overflow`.
     ///
     /// # Errors
     ///
     /// `Overflow` or `OutOfMemory`. `Overflow` is possible only if the iterator may yield lengths whose sum, added to
-    /// the last offset, passes `O::MAX`. After either error, the offsets are as they were.
+    /// the last offset, passes `O::MAX`; `OutOfMemory` only if it may yield more lengths than the spare capacity. After
+    /// either error, the offsets are as they were.
     pub fn try_extend_from_lengths<I: Iterator<Item = usize> + Drop>(
         &mut self,
         lengths: I,
@@ -364,7 +367,7 @@ impl<O: Offset> Offsets<O> {
         self.offsets.as_slice()
     }
 
-    /// Removes the last offset and returns it, or returns `None` where only the first is left.
+    /// Removes the last offset and returns it, or returns `None` where only the first is left; then nothing changes.
     pub fn pop(&mut self) -> Option<O>
         ensures last { MatchOption result (self.old.lengths ≡ []) (λ offset.
             (0 < slots self.old) × (O.value offset ≡ pos (last_of_growing self.old))) }
@@ -490,8 +493,9 @@ impl<O: Offset> Offsets<O> {
 ///
 /// # Errors
 ///
-/// Exactly where the items are not offsets: `OutOfSpec` with the text of the rule that they break, or `OutOfMemory`. In
-/// the code `OutOfMemory` comes only if that text cannot be allocated. After either error the vector is dropped.
+/// Exactly where the items are not offsets: `OutOfSpec` with the text of the first rule of
+/// [`BrokenRule`](crate::BrokenRule) that they break, or `OutOfMemory`. In the code `OutOfMemory` comes only if that
+/// text cannot be allocated. After either error the vector is dropped.
 impl<O: Offset> TryFrom<Vec<O>> for Offsets<O> {
     type Error = Error;
 
