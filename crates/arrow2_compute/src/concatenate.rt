@@ -54,12 +54,14 @@ pub fn concatenate<T: NativeType>(
 /// the arrays can count, or if a `usize` cannot count the items. Otherwise the only error is `OutOfMemory`.
 #[tactic(auto, using(crate::proofs::KernelLoops::joining))]
 pub fn concatenate_binary<A: Binary>(first: &A, others: &[&A]) -> Result<A>
+    // The items of all arrays in turn, the logical type, and how the items are stored.
     ensures items { IfOk result (λ a.
         binary_items (A.parts a) ≡ joined_items (λ array. A.parts array.now) (A.parts first.now) others.now) }
     ensures data_type { IfOk result (λ a. (A.parts a).data_type ≡ (A.parts first.now).data_type) }
     ensures compact { IfOk result (λ a. IsCompact (A.parts a)) }
     ensures bytes { IfOk result (λ a. length (buffer_items (A.parts a).values)
         ≡ joined_bytes (λ array. A.parts array.now) (A.parts first.now) others.now) }
+    // When `Overflow` may come, what fits after `Ok`, and which errors can come.
     ensures overflow { IsErrOf result Error.Overflow →
         AreTooLarge A.GREATEST (λ array. A.parts array.now) (A.parts first.now) others.now }
     ensures fits { OnOk result

@@ -176,11 +176,14 @@ fn sum_of_block<T: WholeNumber>(values: &[T]) -> i128
 
 /// Adds the upper half of `number` to the first of `sums`, and its lower half to the second. Returns both.
 fn with_halves(sums: (i64, u64), number: i128) -> (i64, u64)
+    // The number has 64 bits, with or without a sign, and neither sum is near its end.
     requires low { negsuc (2 ^ 63 - 1) ≤ℤ number }
     requires high { number ≤ℤ pos (2 ^ 64 - 1) }
     requires upper_low { negsuc (2 ^ 62 - 1) ≤ℤ sums.0 }
     requires upper_high { sums.0 ≤ℤ pos (2 ^ 63 - 2 ^ 32) }
     requires lower { sums.1 < 2 ^ 63 }
+    // Both sums together grow by the number. The upper sum falls by at most 2³¹ and rises by less than 2³², and the
+    // lower one rises by less than 2³².
     ensures whole { (result.0 *ℤ pos (2 ^ 32)) +ℤ pos result.1
         ≡ ((sums.0 *ℤ pos (2 ^ 32)) +ℤ pos sums.1) +ℤ number }
     ensures upper_low { sums.0 ≤ℤ (result.0 +ℤ pos (2 ^ 31)) }

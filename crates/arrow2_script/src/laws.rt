@@ -26,6 +26,7 @@ pub fn words_of_a_line()
 /// A word is parsed as a value exactly where it is the one word that spells this value. A value is a number, a slot, a
 /// slot or none, a table, a bit, a text of bits, a list of numbers, bytes or a width.
 pub fn one_word_of_a_value()
+    // Numbers, and what is written as a number below a bound.
     ensures number { (word : List ℕ) (n : ℕ) → (number_of word ≡ Some n) ↔
         ((n < 2 ^ 64) × (decimal n ≡ word)) }
     ensures slot { (word : List ℕ) (n : ℕ) → (slot_of word ≡ Some n) ↔
@@ -35,6 +36,7 @@ pub fn one_word_of_a_value()
         (IfSome slot (λ n. n < 16) × (optional_slot_word slot ≡ word)) }
     ensures table { (bound : ℕ) (word : List ℕ) (n : ℕ) → bound ≤ 2 ^ 64 →
         (below_of bound word ≡ Some n) ↔ ((n < bound) × (decimal n ≡ word)) }
+    // Bits, lists and bytes, and the width of a word.
     ensures bit { (word : List ℕ) (bit : Bool) → (bit_of word ≡ Some bit) ↔
         (bit_byte bit ∷ [] ≡ word) }
     ensures bits { (word : List ℕ) (items : List Bool) → (bits_of word ≡ Some items) ↔

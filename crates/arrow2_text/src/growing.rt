@@ -299,12 +299,13 @@ impl<O: Offset> Growing<O> {
 
     /// Returns the slots, with a validity bitmap exactly if a slot is null.
     pub(crate) fn freeze(self) -> Result<Slots<O>>
+        // The logical type, the slots and which of them are valid.
         ensures data_type { IfOk result (λ s. s.data_type ≡ self.data_type) }
         ensures values { IfOk result (λ s. binary_values s ≡ self.values) }
         ensures valid { IfOk result (λ s. valid_items s.validity ≡ self.valid) }
         ensures bitmap { IfOk result (λ s.
             IsNone s.validity.bitmap ↔ (count_by is_none (zipped self.values self.valid) ≡ 0)) }
-        // Nothing is stored besides the slots.
+        // Nothing is stored besides the slots, and the only error is `OutOfMemory`.
         ensures compact { IfOk result (λ s. IsCompact s) }
         ensures bytes { IfOk result (λ s. length (buffer_items s.values) ≡ self.bytes) }
         ensures only { IfErr result (λ e. e ≡ Error.OutOfMemory) }
@@ -331,10 +332,12 @@ fn push_slot(
     valid: bool,
 ) -> Result<()>
     requires counted { length validity.old.items + 1 < 2 ^ 64 }
+    // What is appended after `Ok`, and that an error changes nothing.
     ensures ok_values { OnOk result (values.new.items ≡ values.old.items ++ value.now) }
     ensures ok_valid { OnOk result (validity.new.items ≡ validity.old.items ++ valid ∷ []) }
     ensures err_values { OnErr result (values.new.items ≡ values.old.items) }
     ensures err_valid { OnErr result (validity.new.items ≡ validity.old.items) }
+    // The only error, when none comes, and that no capacity falls.
     ensures only { IfErr result (λ e. e ≡ Error.OutOfMemory) }
     ensures succeeds { length validity.old.items < validity.old.capacity →
         length values.old.items + length value.now ≤ vec_capacity values.old → IsOk result }

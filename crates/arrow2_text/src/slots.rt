@@ -328,9 +328,11 @@ fn thaw<O: Offset>(
     values: Buffer<u8>,
     validity: Validity,
 ) -> Result<Either<Slots<O>, Growing<O>>>
+    // The offsets begin at 0 and end after the last byte, and there is a bit for each slot.
     requires start { offsets.start ≡ 0 }
     requires whole { sum offsets.lengths ≡ length (buffer_items values) }
     requires same_length { length (valid_items validity) ≡ length offsets.lengths }
+    // Both sides have these slots. `Right` comes only where the bytes are not sliced and a bitmap begins at bit 0.
     ensures ok { IfOk result (λ r. AreThawed r
         (binary_parts data_type.value (whole_buffer (map pos (offsets_of offsets))) values validity)
         (cut (buffer_items values) offsets.lengths)) }

@@ -170,12 +170,14 @@ impl<O: Offset> Utf8Array<O> {
     ///
     /// `Overflow` or `OutOfMemory`. `Overflow` is possible only if the items together have more than `O::MAX` bytes.
     pub fn from_slice(alloc: Global, values: &[&str]) -> Result<Utf8Array<O>>
+        // The values as items, the logical type, no bitmap, and how the items are stored.
         ensures items { IfOk result (λ a. binary_items a ≡ map (λ value. Some value.now) values.entry.now) }
         ensures data_type { IfOk result (λ a. a.data_type ≡ default_text O.IS_LARGE) }
         ensures bitmap { IfOk result (λ a. IsNone a.validity.bitmap) }
         ensures compact { IfOk result (λ a. IsCompact a) }
         ensures bytes { IfOk result (λ a.
             length (buffer_items a.values) ≡ sum (map (λ value. length value.now) values.entry.now)) }
+        // When an offset may not count the bytes, and which errors can come.
         ensures overflow { IsErrOf result Error.Overflow → O.MAX < sum (map (λ value. length value.now) values.entry.now) }
         ensures only { IfErr result (λ e. (e ≡ Error.Overflow) ⊎ (e ≡ Error.OutOfMemory)) }
     {
@@ -194,6 +196,7 @@ impl<O: Offset> Utf8Array<O> {
     ///
     /// `Overflow` or `OutOfMemory`. `Overflow` is possible only if the items together have more than `O::MAX` bytes.
     pub fn from_options(alloc: Global, items: &[Option<&str>]) -> Result<Utf8Array<O>>
+        // The items, the logical type, when there is a bitmap, and how the items are stored.
         ensures items { IfOk result (λ a. binary_items a ≡ items_by_bytes items.entry.now) }
         ensures data_type { IfOk result (λ a. a.data_type ≡ default_text O.IS_LARGE) }
         ensures bitmap { IfOk result (λ a.
@@ -201,6 +204,7 @@ impl<O: Offset> Utf8Array<O> {
         ensures compact { IfOk result (λ a. IsCompact a) }
         ensures bytes { IfOk result (λ a.
             length (buffer_items a.values) ≡ bytes_of_items (items_by_bytes items.entry.now)) }
+        // When an offset may not count the bytes, and which errors can come.
         ensures overflow { IsErrOf result Error.Overflow → O.MAX < bytes_of_items (items_by_bytes items.entry.now) }
         ensures only { IfErr result (λ e. (e ≡ Error.Overflow) ⊎ (e ≡ Error.OutOfMemory)) }
     {
