@@ -2,5 +2,6 @@
 mod checks;
 mod facade;
 mod kernels;
+mod number_kernels;
 mod numbers;
 mod texts;

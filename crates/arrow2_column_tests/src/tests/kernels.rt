@@ -7,8 +7,8 @@ ghost use Rattle.arrow2.specs.Storage.{items_of};
 
 use super::checks::{assert_array, assert_booleans, assert_list, assert_text, assert_that, ok};
 use arrow2::array::{
-    BooleanArray, MutableBooleanArray, MutablePrimitiveArray, MutableUtf8Array, PrimitiveArray,
-    Utf8Array,
+    BinaryArray, BooleanArray, MutableBooleanArray, MutablePrimitiveArray, MutableUtf8Array,
+    PrimitiveArray, Utf8Array,
 };
 use arrow2::bitmap::{Bitmap, MutableBitmap};
 use arrow2::compute::aggregate::{max, min, sum};
@@ -21,14 +21,12 @@ use arrow2::compute::if_then_else::{if_then_else_binary, if_then_else_boolean};
 use arrow2::compute::take::{take_binary, take_boolean, take_by_array};
 use arrow2::datatypes;
 use arrow2::error::Result;
+use arrow2::types::Offset;
 use std::alloc::{AllocError, Global};
 use std::cmp::Ordering;
 use std::convert::TryFrom;
 use std::process::Abort;
 use std::rc::Rc;
-
-/// The lengths at which kernels are tried: none, one, and around a word and two.
-const LENGTHS: [usize; 9] = [0, 1, 2, 63, 64, 65, 127, 129, 200];
 
 /// Returns the item at an index of the lists that the kernels are tried on, null at each index that `nulls` divides;
 /// with 0, none is null.
@@ -40,7 +38,7 @@ fn item_at(position: usize, salt: usize, nulls: usize) -> Option<i64> {
 }
 
 /// Returns the items at the indices below `len`.
-fn numbers_below(
+pub(super) fn numbers_below(
     rt: &impl Abort,
     alloc: Global,
     len: usize,
@@ -58,7 +56,7 @@ fn numbers_below(
 }
 
 /// Returns the array of these items, a slice of a slice that begins after `skipped` others.
-fn array_of(
+pub(super) fn array_of(
     rt: &impl Abort,
     alloc: Global,
     items: &[Option<i64>],
@@ -94,7 +92,7 @@ fn without_first(rt: &impl Abort, array: PrimitiveArray<i64>, count: usize) -> P
 }
 
 /// Returns how the items of two lists compare, index by index: `None` where an item is null.
-fn orders(
+pub(super) fn orders(
     rt: &impl Abort,
     alloc: Global,
     left: &[Option<i64>],
@@ -112,10 +110,10 @@ fn orders(
 }
 
 /// The results of a comparison where the left item is below, equal to and above the right one.
-type Results = (bool, bool, bool);
+pub(super) type Results = (bool, bool, bool);
 
 /// Checks that a comparison of two arrays, whose items compare so, has these results.
-fn is_compared(
+pub(super) fn is_compared(
     rt: &impl Abort,
     alloc: Global,
     call: Result<BooleanArray>,
@@ -160,13 +158,16 @@ fn compares_pairs(rt: &impl Abort, alloc: Global, (a, left): Of, (b, right): Of)
 #[test]
 fn comparisons_of_arrays_agree_with_lists(rt: HostRuntime) {
     let alloc = rt.alloc();
-    for len in LENGTHS {
+    for len in 0..=300 {
         for (nulls, others) in [(0, 0), (3, 0), (0, 5), (3, 5)] {
             let left = numbers_below(&rt, alloc, len, 3, nulls);
             let right = numbers_below(&rt, alloc, len, 4, others);
             comparisons_agree(&rt, alloc, left.as_slice(), right.as_slice());
         }
     }
+    let left = numbers_below(&rt, alloc, 1_000_000, 3, 3);
+    let right = numbers_below(&rt, alloc, 1_000_000, 4, 5);
+    comparisons_agree(&rt, alloc, left.as_slice(), right.as_slice());
 }
 
 /// Checks which items of a list are null.
@@ -195,10 +196,10 @@ fn nulls_agree(rt: &impl Abort, alloc: Global, items: &[Option<i64>]) {
 }
 
 /// Returns for each item `null` where it is null, and else the other boolean.
-fn nulls_of(
+fn nulls_of<T>(
     rt: &impl Abort,
     alloc: Global,
-    items: &[Option<i64>],
+    items: &[Option<T>],
     null: bool,
 ) -> Vec<Option<bool>> {
     let mut nulls = Vec::new(alloc);
@@ -211,12 +212,14 @@ fn nulls_of(
 #[test]
 fn nulls_and_the_least_and_greatest_items_are_those_of_lists(rt: HostRuntime) {
     let alloc = rt.alloc();
-    for len in LENGTHS {
+    for len in 0..=300 {
         for nulls in [0, 1, 2, 64] {
             let items = numbers_below(&rt, alloc, len, 5, nulls);
             nulls_agree(&rt, alloc, items.as_slice());
         }
     }
+    let items = numbers_below(&rt, alloc, 1_000_000, 5, 3);
+    nulls_agree(&rt, alloc, items.as_slice());
 }
 
 #[test]
@@ -245,7 +248,7 @@ fn a_null_in_a_mask_drops_the_item(rt: HostRuntime) {
 }
 
 /// Returns how many numbers were cast, or the text of the error.
-fn text_of_cast(
+pub(super) fn text_of_cast(
     alloc: Global,
     cast: Result<PrimitiveArray<u8>>,
 ) -> std::result::Result<String, AllocError> {
@@ -297,7 +300,7 @@ fn a_sum_of_the_greatest_numbers_is_exact(rt: HostRuntime) {
 }
 
 /// Returns whether a mask is true at the indices below `len`.
-fn flags_of(rt: &impl Abort, alloc: Global, len: usize) -> Vec<bool>
+pub(super) fn flags_of(rt: &impl Abort, alloc: Global, len: usize) -> Vec<bool>
     ensures { length result.items ≡ len }
 {
     let mut flags = Vec::new(alloc);
@@ -309,7 +312,7 @@ fn flags_of(rt: &impl Abort, alloc: Global, len: usize) -> Vec<bool>
 }
 
 /// Returns the mask of these flags, from bit 3 of its bytes on.
-fn mask_of(rt: &impl Abort, alloc: Global, flags: &[bool]) -> Bitmap
+pub(super) fn mask_of(rt: &impl Abort, alloc: Global, flags: &[bool]) -> Bitmap
     ensures { length (items_of result) ≡ length flags.now }
 {
     let mut mask = MutableBitmap::new(alloc);
@@ -329,7 +332,7 @@ fn last_bits(rt: &impl Abort, mask: Bitmap, len: usize) -> Bitmap
 }
 
 /// Returns the items of a list where the flags are true.
-fn keep<T: Copy>(rt: &impl Abort, alloc: Global, flags: &[bool], items: &[T]) -> Vec<T> {
+pub(super) fn keep<T: Copy>(rt: &impl Abort, alloc: Global, flags: &[bool], items: &[T]) -> Vec<T> {
     let mut kept = Vec::new(alloc);
     for (flag, item) in flags.iter().zip(items) {
         if *flag {
@@ -340,7 +343,7 @@ fn keep<T: Copy>(rt: &impl Abort, alloc: Global, flags: &[bool], items: &[T]) ->
 }
 
 /// Returns the items of one list where the flags are true, and those of the other elsewhere.
-fn either<T: Copy>(
+pub(super) fn either<T: Copy>(
     rt: &impl Abort,
     alloc: Global,
     flags: &[bool],
@@ -354,8 +357,37 @@ fn either<T: Copy>(
     items
 }
 
+/// Returns indices below `len`, as many, in another order.
+pub(super) fn indices_below(rt: &impl Abort, alloc: Global, len: usize) -> Vec<usize> {
+    let mut indices = Vec::new(alloc);
+    for step in 0..len {
+        ok(rt, indices.push(step.wrapping_mul(7).wrapping_add(3) % len));
+    }
+    indices
+}
+
+/// Returns the items of a list at these indices.
+pub(super) fn at_indices<T: Copy>(
+    rt: &impl Abort,
+    alloc: Global,
+    items: &[T],
+    indices: &[usize],
+) -> Vec<T> {
+    let mut taken = Vec::new(alloc);
+    for index in indices {
+        assert_that(rt, *index < items.len());
+        ok(rt, taken.push(items[*index]));
+    }
+    taken
+}
+
 /// Returns the items of two lists, one after the other.
-fn concatenation<T: Copy>(rt: &impl Abort, alloc: Global, left: &[T], right: &[T]) -> Vec<T> {
+pub(super) fn concatenation<T: Copy>(
+    rt: &impl Abort,
+    alloc: Global,
+    left: &[T],
+    right: &[T],
+) -> Vec<T> {
     let mut items = ok(rt, left.to_vec(alloc));
     ok(rt, items.extend_from_slice(right));
     items
@@ -386,10 +418,10 @@ fn texts_below(
 }
 
 /// Returns the array of these texts, a slice of a slice that begins after two others.
-fn texts(rt: &impl Abort, alloc: Global, items: &[Option<&str>]) -> Utf8Array<i32>
+fn texts<O: Offset>(rt: &impl Abort, alloc: Global, items: &[Option<&str>]) -> Utf8Array<O>
     ensures { length (binary_items result) ≡ length items.now }
 {
-    let mut array = ok(rt, MutableUtf8Array::<i32>::new(alloc));
+    let mut array = ok(rt, MutableUtf8Array::<O>::new(alloc));
     ok(rt, array.push(Some("before")));
     ok(rt, array.push(None));
     for item in items {
@@ -399,7 +431,7 @@ fn texts(rt: &impl Abort, alloc: Global, items: &[Option<&str>]) -> Utf8Array<i3
 }
 
 /// Returns the `len` texts after two others, which must be all: a slice of a slice.
-fn last_texts(rt: &impl Abort, array: Utf8Array<i32>, len: usize) -> Utf8Array<i32>
+fn last_texts<O: Offset>(rt: &impl Abort, array: Utf8Array<O>, len: usize) -> Utf8Array<O>
     ensures { length (binary_items result) ≡ len }
 {
     let array = without_first_text(rt, without_first_text(rt, array));
@@ -408,27 +440,37 @@ fn last_texts(rt: &impl Abort, array: Utf8Array<i32>, len: usize) -> Utf8Array<i
 }
 
 /// Returns the texts after the first, which must be there.
-fn without_first_text(rt: &impl Abort, array: Utf8Array<i32>) -> Utf8Array<i32> {
+fn without_first_text<O: Offset>(rt: &impl Abort, array: Utf8Array<O>) -> Utf8Array<O> {
     let len = array.len();
     assert_that(rt, 1 <= len);
     array.sliced(1, len - 1)
 }
 
 /// Checks that an array was made, of these texts.
-fn has_texts(rt: &impl Abort, call: Result<Utf8Array<i32>>, items: &[Option<&str>]) {
+fn has_texts<O: Offset>(rt: &impl Abort, call: Result<Utf8Array<O>>, items: &[Option<&str>]) {
     are_texts(rt, &ok(rt, call), items);
 }
 
 /// Checks that an array has these texts.
-fn are_texts(rt: &impl Abort, array: &Utf8Array<i32>, items: &[Option<&str>]) {
+fn are_texts<O: Offset>(rt: &impl Abort, array: &Utf8Array<O>, items: &[Option<&str>]) {
     assert_that(rt, array.len() == items.len());
     for (index, item) in items.iter().enumerate() {
         assert!(rt; index < array.len() && array.get(index) == *item);
     }
 }
 
-/// Checks the kernels of texts on two lists of equal length.
-fn text_kernels_agree(
+/// Checks that an array of byte strings was made, whose bytes are those of these texts.
+fn has_bytes<O: Offset>(rt: &impl Abort, call: Result<BinaryArray<O>>, items: &[Option<&str>]) {
+    let array = ok(rt, call);
+    assert_that(rt, array.len() == items.len());
+    for (index, item) in items.iter().enumerate() {
+        let bytes = item.map(|text| text.as_bytes());
+        assert!(rt; index < array.len() && array.get(index) == bytes);
+    }
+}
+
+/// Checks the kernels of texts and of byte strings on two lists of equal length.
+fn text_kernels_agree<O: Offset>(
     rt: &impl Abort,
     alloc: Global,
     flags: &[bool],
@@ -438,41 +480,64 @@ fn text_kernels_agree(
     requires left { length flags.now ≡ length left.now }
     requires right { length flags.now ≡ length right.now }
 {
-    let (a, b) = (texts(rt, alloc, left), texts(rt, alloc, right));
+    let (a, b) = (texts::<O>(rt, alloc, left), texts::<O>(rt, alloc, right));
+    let (c, d) = (ok(rt, a.to_binary()), ok(rt, b.to_binary()));
     let mask = mask_of(rt, alloc, flags);
     let list = keep(rt, alloc, flags, left);
     has_texts(rt, filter_binary(&a, &mask), list.as_slice());
+    has_bytes(rt, filter_binary(&c, &mask), list.as_slice());
     let list = either(rt, alloc, flags, left, right);
     has_texts(rt, if_then_else_binary(&mask, &a, &b), list.as_slice());
+    has_bytes(rt, if_then_else_binary(&mask, &c, &d), list.as_slice());
     let list = concatenation(rt, alloc, left, right);
     has_texts(rt, concatenate_binary(&a, &[&b]), list.as_slice());
+    has_bytes(rt, concatenate_binary(&c, &[&d]), list.as_slice());
+}
+
+/// Takes texts and byte strings at indices, and tells which of them are null.
+fn texts_are_taken<O: Offset>(rt: &impl Abort, alloc: Global, items: &[Option<&str>]) {
+    let a = texts::<O>(rt, alloc, items);
+    let indices = indices_below(rt, alloc, items.len());
+    let indices = indices.as_slice();
+    assert_that(rt, !indices.iter().any(|index| *index >= a.len()));
+    let list = at_indices(rt, alloc, items, indices);
+    has_texts(rt, take_binary(&a, indices), list.as_slice());
+    let bytes = ok(rt, a.to_binary());
+    assert_that(rt, bytes.len() == a.len());
+    has_bytes(rt, take_binary(&bytes, indices), list.as_slice());
+    let nulls = nulls_of(rt, alloc, items, true);
+    assert_booleans(rt, alloc, is_null(&a), nulls.as_slice());
+    let nulls = nulls_of(rt, alloc, items, false);
+    assert_booleans(rt, alloc, is_not_null(&bytes), nulls.as_slice());
 }
 
 /// Checks the kernels of texts at a length.
-fn text_kernels_agree_at(rt: &impl Abort, alloc: Global, len: usize, nulls: usize, others: usize) {
+fn text_kernels_agree_at<O: Offset>(
+    rt: &impl Abort,
+    alloc: Global,
+    len: usize,
+    nulls: usize,
+    others: usize,
+) {
     let left = texts_below(rt, alloc, len, nulls);
     let right = texts_below(rt, alloc, len, others);
     let flags = flags_of(rt, alloc, len);
-    text_kernels_agree(
-        rt,
-        alloc,
-        flags.as_slice(),
-        left.as_slice(),
-        right.as_slice(),
-    );
+    let (left, right) = (left.as_slice(), right.as_slice());
+    text_kernels_agree::<O>(rt, alloc, flags.as_slice(), left, right);
+    texts_are_taken::<O>(rt, alloc, left);
 }
 
 #[test]
 fn kernels_of_texts_agree_with_lists(rt: HostRuntime) {
     let alloc = rt.alloc();
-    for len in LENGTHS {
+    for len in 0..=300 {
         for (nulls, others) in [(0, 0), (3, 0), (0, 4), (2, 3)] {
-            text_kernels_agree_at(&rt, alloc, len, nulls, others);
+            text_kernels_agree_at::<i32>(&rt, alloc, len, nulls, others);
+            text_kernels_agree_at::<i64>(&rt, alloc, len, nulls, others);
         }
     }
-    let some = texts(&rt, alloc, &[Some("a"), None, Some(""), Some("dé")]);
-    let taken = take_binary(&some, &[3, 3, 1]);
-    has_texts(&rt, taken, &[Some("dé"), Some("dé"), None]);
+    text_kernels_agree_at::<i32>(&rt, alloc, 1_000_000, 3, 0);
+    text_kernels_agree_at::<i64>(&rt, alloc, 1_000_000, 0, 4);
 }
 
 /// Returns the booleans at the indices below `len`, null at each index that `nulls` divides.
@@ -546,6 +611,18 @@ fn boolean_kernels_agree(
     assert_booleans(rt, alloc, concatenate_boolean(&a, &[&b]), list.as_slice());
 }
 
+/// Takes booleans at indices, and tells which of them are null.
+fn booleans_are_taken(rt: &impl Abort, alloc: Global, items: &[Option<bool>]) {
+    let a = booleans(rt, alloc, items);
+    let indices = indices_below(rt, alloc, items.len());
+    let indices = indices.as_slice();
+    assert_that(rt, !indices.iter().any(|index| *index >= a.len()));
+    let list = at_indices(rt, alloc, items, indices);
+    assert_booleans(rt, alloc, take_boolean(&a, indices), list.as_slice());
+    let nulls = nulls_of(rt, alloc, items, true);
+    assert_booleans(rt, alloc, is_null(&a), nulls.as_slice());
+}
+
 /// Checks the kernels of booleans at a length.
 fn boolean_kernels_agree_at(
     rt: &impl Abort,
@@ -557,24 +634,19 @@ fn boolean_kernels_agree_at(
     let left = booleans_below(rt, alloc, len, nulls);
     let right = booleans_below(rt, alloc, len, others);
     let flags = flags_of(rt, alloc, len);
-    boolean_kernels_agree(
-        rt,
-        alloc,
-        flags.as_slice(),
-        left.as_slice(),
-        right.as_slice(),
-    );
+    let (left, right) = (left.as_slice(), right.as_slice());
+    boolean_kernels_agree(rt, alloc, flags.as_slice(), left, right);
+    booleans_are_taken(rt, alloc, left);
 }
 
 #[test]
 fn kernels_of_booleans_agree_with_lists(rt: HostRuntime) {
     let alloc = rt.alloc();
-    for len in LENGTHS {
+    for len in 0..=300 {
         for (nulls, others) in [(0, 0), (3, 0), (0, 4), (2, 3)] {
             boolean_kernels_agree_at(&rt, alloc, len, nulls, others);
         }
     }
-    let some = booleans(&rt, alloc, &[Some(true), None, Some(false)]);
-    let taken = take_boolean(&some, &[2, 0, 1]);
-    assert_booleans(&rt, alloc, taken, &[Some(false), Some(true), None]);
+    boolean_kernels_agree_at(&rt, alloc, 1_000_000, 3, 0);
+    boolean_kernels_agree_at(&rt, alloc, 1_000_000, 0, 4);
 }

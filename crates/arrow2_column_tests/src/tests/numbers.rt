@@ -14,9 +14,6 @@ use arrow2::compute::aggregate::sum;
 use arrow2::compute::comparison::{
     eq_scalar, gt_eq_scalar, gt_scalar, lt_eq_scalar, lt_scalar, neq_scalar,
 };
-use arrow2::compute::concatenate::concatenate;
-use arrow2::compute::filter::filter;
-use arrow2::compute::if_then_else::if_then_else;
 use arrow2::compute::take::take;
 use arrow2::datatypes;
 use arrow2::error::Result;
@@ -72,38 +69,6 @@ fn mask_of(rt: &impl Abort, alloc: Global, len: usize) -> Bitmap
         |position| position >= 3 && is_kept(position - 3),
     );
     ok(rt, mask).sliced(3, len)
-}
-
-/// Returns the items that a test of their indices keeps.
-fn items_below(rt: &impl Abort, alloc: Global, len: usize, only_kept: bool) -> Vec<Option<i64>> {
-    let mut items = Vec::new(alloc);
-    for position in 0..len {
-        if !only_kept || is_kept(position) {
-            ok(rt, items.push(item_at(position)));
-        }
-    }
-    items
-}
-
-/// Checks the kernels at a length.
-fn kernels_agree(rt: &impl Abort, alloc: Global, len: usize) {
-    let array = array_of(rt, alloc, len);
-    let mask = mask_of(rt, alloc, len);
-    let kept = items_below(rt, alloc, len, true);
-    assert_array(rt, alloc, filter(&array, &mask), kept.as_slice());
-    let all = items_below(rt, alloc, len, false);
-    let chosen = if_then_else(&mask, &array, &array);
-    assert_array(rt, alloc, chosen, all.as_slice());
-    assert_array(rt, alloc, concatenate(&array, &[]), all.as_slice());
-}
-
-#[test]
-fn kernels_agree_with_lists_at_many_lengths(rt: HostRuntime) {
-    let alloc = rt.alloc();
-    for len in 0..300 {
-        kernels_agree(&rt, alloc, len);
-    }
-    kernels_agree(&rt, alloc, 100_000);
 }
 
 #[test]
