@@ -467,6 +467,9 @@ fn buffers(inputs: &Inputs) -> Vec<Line<'_>> {
         line!(name, elements, words("products", numbers), vec![len; times])
     };
     let calls = |name, len, times| collect(name, (times, "calls"), len, times);
+    let without_hint = |name, len, times| {
+        line!(name, (times, "calls"), words("nonzero", numbers), vec![len; times])
+    };
     vec![
         on("clone and sliced", (100_000, "slices"), "sliced", parts(NUMBERS, 0, NUMBERS, 100_000)),
         on("into_iter", all, "into_iter", whole()),
@@ -478,6 +481,8 @@ fn buffers(inputs: &Inputs) -> Vec<Line<'_>> {
         calls("try_from_iter of 1,000 items", 1_000, 3_000),
         calls("try_from_iter of 10,000 items", 10_000, 300),
         calls("try_from_iter of 100,000 items", 100_000, 30),
+        without_hint("try_from_iter of 1,000 items, no size hint", 1_000, 3_000),
+        without_hint("try_from_iter of 100,000 items, no size hint", 100_000, 30),
     ]
 }
 

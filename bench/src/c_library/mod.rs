@@ -158,21 +158,24 @@ fn booleans(inputs: &Inputs) -> Vec<Line<'_>> {
 }
 
 fn offsets(inputs: &Inputs) -> Vec<Line<'_>> {
-    let small: [Call<Slots>; 7] = calls![
+    let small: [Call<Slots>; 8] = calls![
         offsets32_check,
         texts32_check,
         offsets32_lengths,
         offsets32_lengths_unchecked,
         offsets32_from_lengths,
         offsets32_rebase,
+        offsets32_rebase_unchecked,
         offsets_widen,
     ];
-    let large: [Call<Slots>; 6] = calls![
+    let large: [Call<Slots>; 8] = calls![
         offsets64_check,
         texts64_check,
         offsets64_lengths,
+        offsets64_lengths_unchecked,
         offsets64_from_lengths,
         offsets64_rebase,
+        offsets64_rebase_unchecked,
         offsets_narrow,
     ];
     let on = |bits, width| (bits, Rc::new(Slots::new(inputs, bits / width)));

@@ -285,16 +285,40 @@ pub fn offsets32_lengths(on: &Slots, runs: &[usize]) -> usize {
 }
 
 /// The offsets are checked once, before the runs.
-pub fn offsets32_lengths_unchecked(on: &Slots, runs: &[usize]) -> usize {
-    let Ok(offsets) = CheckedOffsets::new(&on.offsets32) else {
+fn lengths_unchecked<O: Offset>(offsets: &[O], runs: &[usize]) -> usize {
+    let Ok(checked) = CheckedOffsets::new(offsets) else {
         return 0;
     };
-    let mut out = vec![0; on.offsets32.len() - 1];
+    let mut out = vec![0; offsets.len() - 1];
     let mut failed = 0;
     for _ in runs {
-        failed += usize::from(black_box(offsets).lengths(black_box(&mut out)).is_err());
+        failed += usize::from(black_box(checked).lengths(black_box(&mut out)).is_err());
     }
     digest(out).wrapping_add(failed)
+}
+
+/// The offsets are checked once, before the runs.
+fn rebase_unchecked<O: Offset + Default + Into<i64>>(offsets: &[O], runs: &[usize]) -> usize {
+    let Ok(checked) = CheckedOffsets::new(offsets) else {
+        return 0;
+    };
+    numbers_written(offsets.len() - 1, runs, |_, out: &mut [O]| black_box(checked).rebase(1, out))
+}
+
+pub fn offsets32_lengths_unchecked(on: &Slots, runs: &[usize]) -> usize {
+    lengths_unchecked(&on.offsets32, runs)
+}
+
+pub fn offsets64_lengths_unchecked(on: &Slots, runs: &[usize]) -> usize {
+    lengths_unchecked(&on.offsets64, runs)
+}
+
+pub fn offsets32_rebase_unchecked(on: &Slots, runs: &[usize]) -> usize {
+    rebase_unchecked(&on.offsets32, runs)
+}
+
+pub fn offsets64_rebase_unchecked(on: &Slots, runs: &[usize]) -> usize {
+    rebase_unchecked(&on.offsets64, runs)
 }
 
 pub fn offsets64_lengths(on: &Slots, runs: &[usize]) -> usize {

@@ -78,6 +78,8 @@ fn mix(buffer: Buffer<u64>) -> usize {
 pub extern "C" fn bench_words(alloc: Global, call: &[u8], items: &[u64], runs: &[usize]) -> usize {
     if call == b"products".as_slice() {
         on_firsts(items, runs, |items| products(alloc, items))
+    } else if call == b"nonzero".as_slice() {
+        on_firsts(items, runs, |items| nonzero(alloc, items))
     } else if call == b"comparisons".as_slice() {
         on_firsts(items, runs, |items| comparisons(alloc, items))
     } else {
@@ -87,10 +89,21 @@ pub extern "C" fn bench_words(alloc: Global, call: &[u8], items: &[u64], runs: &
 
 /// The last item of a buffer of products, or 0 where there is none.
 fn products(alloc: Global, items: &[u64]) -> Result<usize> {
-    let buffer = Buffer::try_from_iter(alloc, items.iter().map(|item| item.wrapping_mul(3)))?;
+    let products = items.iter().map(|item| item.wrapping_mul(3));
+    Ok(last(&Buffer::try_from_iter(alloc, products)?))
+}
+
+/// The last item of a buffer of the items that are not 0: the size hint of their iterator tells no least number.
+fn nonzero(alloc: Global, items: &[u64]) -> Result<usize> {
+    let nonzero = items.iter().copied().filter(|item| *item != 0);
+    Ok(last(&Buffer::try_from_iter(alloc, nonzero)?))
+}
+
+/// The last item of a buffer, or 0 where there is none.
+fn last(buffer: &Buffer<u64>) -> usize {
     match buffer.as_slice().last() {
-        Some(item) => Ok(*item as usize),
-        None => Ok(0),
+        Some(item) => *item as usize,
+        None => 0,
     }
 }
 
