@@ -108,13 +108,16 @@ fn quaternary_bitmap<const T: u16>(
     a3: &Bitmap,
     a4: &Bitmap,
 ) -> Result<Bitmap>
+    // The four inputs have equal lengths.
     requires same_length2 { length (items_of a1.now) ≡ length (items_of a2.now) }
     requires same_length3 { length (items_of a1.now) ≡ length (items_of a3.now) }
     requires same_length4 { length (items_of a1.now) ≡ length (items_of a4.now) }
+    // The outputs item by item, their number, and how they are stored.
     ensures items { IfOk result (λ b. items_of b
         ≡ each T (items_of a1.now ∷ items_of a2.now ∷ items_of a3.now ∷ items_of a4.now ∷ [])) }
     ensures len { IfOk result (λ b. length (items_of b) ≡ length (items_of a1.now)) }
     ensures storage { IfOk result (λ b. IsPacked b) }
+    // The only error is `OutOfMemory`.
     ensures only { IfErr result (λ e. e ≡ Error.OutOfMemory) }
 {
     quaternary(
