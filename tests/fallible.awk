@@ -2,6 +2,13 @@
 # the head of an `impl` of a trait. The documentation of a call that never allocates says "Does not allocate.", with no
 # condition after it.
 # With `words`, those alone whose documentation has them.
+# Comparisons of byte strings, of texts and of booleans have the names of those of numbers: each is printed after its
+# module, as `binary::eq`.
+FNR == 1 {
+    module = FILENAME ~ /\/comparison\/[a-z]+\.rt$/ ? FILENAME : ""
+    sub(/.*\//, "", module)
+    sub(/\.rt$/, "::", module)
+}
 /^ *}/ { said = "" }
 {
     line = $0
@@ -22,8 +29,7 @@
     call = $0
     sub(/^ *(pub )?fn /, "", call)
     sub(/[<(].*/, "", call)
-    if (owner != "")
-        call = owner ~ / for / ? owner : type "::" call
+    call = owner == "" ? module call : owner ~ / for / ? owner : type "::" call
 }
 /\{$/ && call != "" {
     if (public && said ~ /OutOfMemory|AllocError/ && said !~ /Does not allocate[.:]/ && said ~ words)

@@ -48,6 +48,7 @@ pub use Rattle.arrow2_array.specs.Kleene
 pub use Rattle.arrow2_primitive.specs.Primitive
 pub use Rattle.arrow2_numeric.specs.Aggregates
 pub use Rattle.arrow2_numeric.specs.Casts
+pub use Rattle.arrow2_compute.specs.Comparisons
 pub use Rattle.arrow2_compute.specs.Masks
 pub use Rattle.arrow2_numeric.specs.Pairs
 pub use Rattle.arrow2_compute.specs.Sizes

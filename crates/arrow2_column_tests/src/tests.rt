@@ -1,5 +1,6 @@
 //! The items of the crate at their paths, arrays of numbers and of texts, and the kernels over them.
 mod checks;
+mod comparisons;
 mod facade;
 mod kernels;
 mod number_kernels;

@@ -1,3 +1,4 @@
+pub mod Comparisons
 pub mod KernelLoops
 pub mod Masks
 pub mod ByteCounts

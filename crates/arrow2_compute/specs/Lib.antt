@@ -1,3 +1,4 @@
+pub mod Comparisons
 pub mod Take
 pub mod Masks
 pub mod Sizes

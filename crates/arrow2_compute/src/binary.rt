@@ -1,12 +1,13 @@
 //! A trait for arrays of byte strings and of texts, with the calls that kernels need.
-ghost use Rattle.std.specs.Prelude.{◌≡◌, ◌+◌, ◌<◌, ◌≤◌, [], None, ℕ, length, IfOk, IfErr};
+ghost use Rattle.std.specs.Prelude.{◌≡◌, ◌+◌, ◌<◌, ◌≤◌, [], None, ℕ, length, slice_index_or, IfOk, IfErr};
 ghost use Rattle.arrow2_compute.specs.Sizes.{AppendsItem, binary_item, slot_bytes, with_bitmap};
 ghost use Rattle.arrow2_model.specs.Buffers.{buffer_items};
 ghost use Rattle.arrow2_model.specs.Parts.{part};
-ghost use Rattle.arrow2_text.specs.Binary.{BinaryParts, HasBitPerSlot, IsCompact, binary_items, slots_between, slots_size};
+ghost use Rattle.arrow2_text.specs.Binary.{BinaryParts, HasBitPerSlot, IsCompact, binary_items, binary_values, slots_between, slots_size};
 ghost use Rattle.arrow2_text.specs.Growth.{AppendsBinary, GrowingBinary};
 ghost use Rattle.arrow2_validity.specs.OptionalValidity.{valid_items};
 
+use crate::boolean::Nullable;
 use arrow2_bitmap::Bitmap;
 use arrow2_index::Offset;
 use arrow2_text::{BinaryArray, MutableBinaryArray, MutableUtf8Array, Utf8Array};
@@ -14,7 +15,7 @@ use arrow2_types::{Error, Result};
 use arrow2_validity::Validity;
 
 /// An array of byte strings or of texts, with offsets of 32 or 64 bits. One set of kernels serves all four types.
-pub trait Binary: Drop {
+pub trait Binary: Nullable + Drop {
     // What contracts see of the array.
     ghost parts: { Self → BinaryParts };
 
@@ -30,8 +31,14 @@ pub trait Binary: Drop {
     /// Returns the number of items, nulls too.
     fn count(&self) -> usize
         ensures items { result ≡ length (binary_items (parts self.now)) }
+        ensures values { result ≡ length (binary_values (parts self.now)) }
         ensures slots { result ≡ slots_between (parts self.now).offsets }
         ensures fits { slot_bytes (parts self.now) ≤ GREATEST };
+
+    /// Returns the bytes of slot `index`, also under a null. Requires that `index` is below the length.
+    fn value(&self, index: usize) -> &[u8]
+        requires below { index < length (binary_items (parts self.now)) }
+        ensures { result.now ≡ slice_index_or (binary_values (parts self.now)) index [] };
 
     /// Returns the validity.
     fn optional_validity(&self) -> &Validity
@@ -78,6 +85,15 @@ pub trait Binary: Drop {
         ensures { AppendsItem GREATEST result (growing grown.old) (growing grown.new)
             (binary_item (parts array.now) index) };
 
+    /// Appends a null.
+    ///
+    /// # Errors
+    ///
+    /// `Overflow` exactly if the length is `usize::MAX`. Otherwise the only error is `OutOfMemory`. After an error,
+    /// `grown` holds the items that it held.
+    fn push_null(grown: &mut Self::Growing) -> Result<()>
+        ensures { AppendsItem GREATEST result (growing grown.old) (growing grown.new) None };
+
     /// Appends the `len` items of `array` from item `start` on. Copies the bytes under nulls too; contracts state
     /// only their number. Requires that `start + len` is at most the length of `array`.
     ///
@@ -120,6 +136,10 @@ impl<O: Offset> Binary for BinaryArray<O> {
         self.len()
     }
 
+    fn value(&self, index: usize) -> &[u8] {
+        self.value(index)
+    }
+
     fn optional_validity(&self) -> &Validity {
         // For the proof alone: reading the length brings the fact that there is an item for each slot.
         let _ = self.len();
@@ -147,6 +167,10 @@ impl<O: Offset> Binary for BinaryArray<O> {
         index: usize,
     ) -> Result<()> {
         grown.push(array.get(index))
+    }
+
+    fn push_null(grown: &mut MutableBinaryArray<O>) -> Result<()> {
+        grown.push_null()
     }
 
     fn push_items(
@@ -178,6 +202,10 @@ impl<O: Offset> Binary for Utf8Array<O> {
         self.len()
     }
 
+    fn value(&self, index: usize) -> &[u8] {
+        self.value(index).as_bytes()
+    }
+
     fn optional_validity(&self) -> &Validity {
         // For the proof alone: reading the length brings the fact that there is an item for each slot.
         let _ = self.len();
@@ -205,6 +233,10 @@ impl<O: Offset> Binary for Utf8Array<O> {
         index: usize,
     ) -> Result<()> {
         grown.push(array.get(index))
+    }
+
+    fn push_null(grown: &mut MutableUtf8Array<O>) -> Result<()> {
+        grown.push_null()
     }
 
     fn push_items(

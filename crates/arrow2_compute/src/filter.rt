@@ -198,6 +198,28 @@ pub fn filter_binary<A: Binary>(array: &A, mask: &Bitmap) -> Result<A>
     Ok(kept.with_validity(validity.into_null_bitmap()))
 }
 
+/// Returns the byte strings or texts at whose index the mask is `Some(true)`: a null of the mask counts as false. The
+/// result has a validity bitmap exactly if an item of it is null. Requires that both have equal lengths.
+///
+/// In arrow2 it is `filter`.
+///
+/// # Errors
+///
+/// `OutOfMemory` alone.
+pub fn filter_binary_by_array<A: Binary>(array: &A, mask: &BooleanArray) -> Result<A>
+    requires same_length { length (boolean_items mask.now) ≡ length (binary_items (A.parts array.now)) }
+    ensures items { IfOk result (λ a. binary_items (A.parts a)
+        ≡ selection (binary_items (A.parts array.now)) (map is_true (boolean_items mask.now))) }
+    ensures data_type { IfOk result (λ a. (A.parts a).data_type ≡ (A.parts array.now).data_type) }
+    ensures compact { IfOk result (λ a. IsCompact (A.parts a)) }
+    // The number of bytes of the selected slots, of null slots too.
+    ensures bytes { IfOk result (λ a. length (buffer_items (A.parts a).values) ≡ sum (selection
+        (lengths_of (buffer_items (A.parts array.now).offsets)) (map is_true (boolean_items mask.now)))) }
+    ensures only { IfErr result (λ e. e ≡ Error.OutOfMemory) }
+{
+    filter_binary(array, &true_items(mask)?)
+}
+
 /// Returns the items at whose index the mask is true, copied run by run. Requires that both have equal lengths.
 fn selected_slots<A: Binary>(array: &A, mask: &Bitmap) -> Result<A>
     requires same_length { length (items_of mask.now) ≡ length (binary_items (A.parts array.now)) }
@@ -236,4 +258,22 @@ pub fn filter_boolean(array: &BooleanArray, mask: &Bitmap) -> Result<BooleanArra
     let values = selected_bits(array.values(), mask)?;
     let validity = selected_validity(array.optional_validity(), mask)?;
     Ok(BooleanArray::from_parts(values, validity))
+}
+
+/// Returns the booleans at whose index the mask is `Some(true)`: a null of the mask counts as false. Requires that both
+/// have equal lengths.
+///
+/// In arrow2 it is `filter`.
+///
+/// # Errors
+///
+/// `OutOfMemory` alone.
+pub fn filter_boolean_by_array(array: &BooleanArray, mask: &BooleanArray) -> Result<BooleanArray>
+    requires same_length { length (boolean_items mask.now) ≡ length (boolean_items array.now) }
+    ensures items { IfOk result (λ a. boolean_items a
+        ≡ selection (boolean_items array.now) (map is_true (boolean_items mask.now))) }
+    ensures bitmap { IfOk result (λ a. IsNone a.validity.bitmap ↔ IsNone array.now.validity.bitmap) }
+    ensures only { IfErr result (λ e. e ≡ Error.OutOfMemory) }
+{
+    filter_boolean(array, &true_items(mask)?)
 }

@@ -1,8 +1,10 @@
-//! Functions on whole arrays of any type: those that select, join or choose items, and those that find nulls.
+//! Functions on whole arrays of any type: those that select, join or choose items, and those that find nulls; and
+//! comparisons of byte strings, of texts and of booleans.
 #![tactic(auto)]
 
 pub mod binary;
 pub mod boolean;
+pub mod comparison;
 pub mod concatenate;
 pub mod filter;
 pub mod if_then_else;

@@ -1,10 +1,10 @@
 //! The items at given indices.
-ghost use Rattle.std.specs.Prelude.{◌≡◌, ◌<◌, ◌≤◌, ◌⊎◌, All, None, count_by, false, is_some, length, map, slice_index_or, sum_by, IfOk, IfErr, IsErrOf, OnOk, ◌↔◌, IsNone};
+ghost use Rattle.std.specs.Prelude.{◌≡◌, ◌<◌, ◌≤◌, ◌⊎◌, All, Bool, None, Option, count_by, false, is_some, length, map, slice_index_or, sum_by, IfOk, IfErr, IsErrOf, OnOk, ◌↔◌, IsNone};
 ghost use Rattle.std.specs.List.{AllZip};
 ghost use Rattle.std.specs.Option.{is_none};
 ghost use Rattle.arrow2_array.specs.Items.{boolean_items};
 ghost use Rattle.arrow2_compute.specs.Take.{IsInBoundsOrNull, IsItemAt, item_at, items_by_index};
-ghost use Rattle.arrow2_compute.specs.Sizes.{binary_item, item_bytes};
+ghost use Rattle.arrow2_compute.specs.Sizes.{AppendsItem, binary_item, item_bytes};
 ghost use Rattle.arrow2_model.specs.Buffers.{buffer_items};
 ghost use Rattle.arrow2_model.specs.Storage.{items_of};
 ghost use Rattle.arrow2_primitive.specs.Primitive.{primitive_items};
@@ -210,6 +210,60 @@ pub fn take_binary<A: Binary>(array: &A, indices: &[usize]) -> Result<A>
     A::freeze(taken)
 }
 
+/// Returns, for each index in `indices`, the byte string or text at this index, and null where the index is null. The
+/// result has a validity bitmap exactly if an item of it is null. The number stored under a null index has no effect on
+/// the items. Requires that each index is null, or at least 0 and below the length.
+///
+/// In arrow2 it is `take`.
+///
+/// # Errors
+///
+/// If the taken items together have more bytes than an offset of the array can count, it fails with `Overflow` or
+/// `OutOfMemory`. Otherwise the only error is `OutOfMemory`.
+#[tactic(auto, using(crate::proofs::ByteCounts::weighed))]
+pub fn take_binary_by_array<A: Binary, I: Index>(
+    array: &A,
+    indices: &PrimitiveArray<I>,
+) -> Result<A>
+    requires inside { All (IsInBoundsOrNull I.value (length (binary_items (A.parts array.now)))) (primitive_items indices.now) }
+    // The items at the indices, the logical type, and how the items are stored.
+    ensures items { IfOk result (λ a. binary_items (A.parts a)
+        ≡ items_by_index I.value (binary_items (A.parts array.now)) (primitive_items indices.now)) }
+    ensures data_type { IfOk result (λ a. (A.parts a).data_type ≡ (A.parts array.now).data_type) }
+    ensures compact { IfOk result (λ a. IsCompact (A.parts a)) }
+    ensures bytes { IfOk result (λ a. length (buffer_items (A.parts a).values) ≡ sum_by item_bytes
+        (items_by_index I.value (binary_items (A.parts array.now)) (primitive_items indices.now))) }
+    // When it fails since an offset cannot count their bytes, and which errors can come.
+    ensures overflow { IsErrOf result Error.Overflow → A.GREATEST < sum_by item_bytes
+        (items_by_index I.value (binary_items (A.parts array.now)) (primitive_items indices.now)) }
+    ensures fits { OnOk result (sum_by item_bytes
+        (items_by_index I.value (binary_items (A.parts array.now)) (primitive_items indices.now)) ≤ A.GREATEST) }
+    ensures only { IfErr result (λ e. (e ≡ Error.Overflow) ⊎ (e ≡ Error.OutOfMemory)) }
+{
+    let mut taken = array.like(indices.len().min(array.count()))?;
+    for position in 0..indices.len() {
+        push_item_or_null(&mut taken, array, indices.get(position))?;
+    }
+    A::freeze(taken)
+}
+
+/// Appends the item of `array` at an index, or a null where the index is null. Requires that the index is null, or at
+/// least 0 and below the length.
+fn push_item_or_null<A: Binary, I: Index>(
+    grown: &mut A::Growing,
+    array: &A,
+    index: Option<I>,
+) -> Result<()>
+    requires inside { IsInBoundsOrNull I.value (length (binary_items (A.parts array.now))) index }
+    ensures { AppendsItem A.GREATEST result (A.growing grown.old) (A.growing grown.new)
+        (item_at I.value (binary_items (A.parts array.now)) index) }
+{
+    match index {
+        Some(index) => A::push_item(grown, array, index.to_usize()),
+        None => A::push_null(grown),
+    }
+}
+
 /// Returns the booleans at these indices, in the order of the indices. Requires that each index is below the length.
 ///
 /// In arrow2 it is `take`, whose indices are an array.
@@ -227,4 +281,72 @@ pub fn take_boolean(array: &BooleanArray, indices: &[usize]) -> Result<BooleanAr
     let values = bits_at(array.values(), indices)?;
     let validity = validity_at(array.optional_validity(), indices)?;
     Ok(BooleanArray::from_parts(values, validity))
+}
+
+/// Returns, for each index in `indices`, the boolean at this index, and null where the index is null. The result has a
+/// validity bitmap exactly if an item of it is null. The number stored under a null index has no effect on the items.
+/// Requires that each index is null, or at least 0 and below the length.
+///
+/// In arrow2 it is `take`.
+///
+/// # Errors
+///
+/// `OutOfMemory` alone.
+pub fn take_boolean_by_array<I: Index>(
+    array: &BooleanArray,
+    indices: &PrimitiveArray<I>,
+) -> Result<BooleanArray>
+    requires inside { All (IsInBoundsOrNull I.value (length (boolean_items array.now))) (primitive_items indices.now) }
+    ensures items { IfOk result (λ a. boolean_items a
+        ≡ items_by_index I.value (boolean_items array.now) (primitive_items indices.now)) }
+    ensures bitmap { IfOk result (λ a.
+        IsNone a.validity.bitmap ↔ (count_by is_none (boolean_items a) ≡ 0)) }
+    ensures only { IfErr result (λ e. e ≡ Error.OutOfMemory) }
+{
+    let values = tested_by_array(array, indices, |item| item.unwrap_or(false))?;
+    let known = tested_by_array(array, indices, |item| item.is_some())?;
+    let validity = Validity::new(indices.len(), Some(known)).into_null_bitmap();
+    Ok(BooleanArray::new(values, validity))
+}
+
+/// Returns, for each index in `indices`, the result of `test` for the boolean at this index, and for a null where the
+/// index is null. The contract states this where the contract of `test` fixes its result for every item. Requires that
+/// each index is null, or at least 0 and below the length, and that `test` may be called with any item.
+fn tested_by_array<I: Index, F: Fn(Option<bool>) -> bool>(
+    array: &BooleanArray,
+    indices: &PrimitiveArray<I>,
+    test: F,
+) -> Result<Bitmap>
+    requires inside { All (IsInBoundsOrNull I.value (length (boolean_items array.now))) (primitive_items indices.now) }
+    requires callable { F.IsAlwaysCallable test }
+    ensures items { (outcome : Option Bool → Bool) →
+        ((item : Option Bool) (tested : Bool) → F.post test item tested → tested ≡ outcome item) →
+        IfOk result (λ b. items_of b
+        ≡ map outcome (items_by_index I.value (boolean_items array.now) (primitive_items indices.now))) }
+    ensures len { IfOk result (λ b. length (items_of b) ≡ length (primitive_items indices.now)) }
+    ensures only { IfErr result (λ e. e ≡ Error.OutOfMemory) }
+{
+    Bitmap::try_from_fn(
+        array.values().allocator(),
+        indices.len(),
+        |position|
+            requires below { position < length (primitive_items indices.now) }
+            requires inside { All (IsInBoundsOrNull I.value (length (boolean_items array.now))) (primitive_items indices.now) }
+            requires callable { F.IsAlwaysCallable test }
+            ensures { F.post test (item_at I.value (boolean_items array.entry.now)
+                (slice_index_or (primitive_items indices.entry.now) position None)) result }
+        { test(boolean_at(array, indices.get(position))) },
+    )
+}
+
+/// Returns the boolean at an index, or null where the index is null. Requires that the index is null, or at least 0 and
+/// below the length.
+fn boolean_at<I: Index>(array: &BooleanArray, index: Option<I>) -> Option<bool>
+    requires inside { IsInBoundsOrNull I.value (length (boolean_items array.now)) index }
+    ensures { result ≡ item_at I.value (boolean_items array.now) index }
+{
+    match index {
+        Some(index) => array.get(index.to_usize()),
+        None => None,
+    }
 }

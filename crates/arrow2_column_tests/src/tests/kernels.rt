@@ -1,9 +1,11 @@
-//! Kernels of two arrays, and those by arrays of indices and of booleans, compared with plain code over lists.
-ghost use Rattle.std.specs.Prelude.{◌≡◌, length};
+//! Kernels of texts, of byte strings and of booleans, at each length up to 300 and on a million items, and some kernels
+//! of numbers. Most are compared with plain code over lists.
+ghost use Rattle.std.specs.Prelude.{◌≡◌, ◌↔◌, ◌<◌, All, IsTrue, length, pos};
 ghost use Rattle.arrow2.specs.Binary.{binary_items};
 ghost use Rattle.arrow2.specs.Items.{boolean_items};
 ghost use Rattle.arrow2.specs.Primitive.{primitive_items};
 ghost use Rattle.arrow2.specs.Storage.{items_of};
+ghost use Rattle.arrow2.specs.Take.{IsInBoundsOrNull};
 
 use super::checks::{assert_array, assert_booleans, assert_list, assert_text, assert_that, ok};
 use arrow2::array::{
@@ -14,16 +16,18 @@ use arrow2::bitmap::{Bitmap, MutableBitmap};
 use arrow2::compute::aggregate::{max, min, sum};
 use arrow2::compute::boolean::{is_not_null, is_null};
 use arrow2::compute::cast::{primitive_to_primitive, try_primitive_to_primitive};
-use arrow2::compute::comparison::{eq, gt, gt_eq, lt, lt_eq, neq};
 use arrow2::compute::concatenate::{concatenate_binary, concatenate_boolean};
-use arrow2::compute::filter::{filter_binary, filter_boolean, filter_by_array};
+use arrow2::compute::filter::{
+    filter_binary, filter_binary_by_array, filter_boolean, filter_boolean_by_array, filter_by_array,
+};
 use arrow2::compute::if_then_else::{if_then_else_binary, if_then_else_boolean};
-use arrow2::compute::take::{take_binary, take_boolean, take_by_array};
+use arrow2::compute::take::{
+    take_binary, take_binary_by_array, take_boolean, take_boolean_by_array, take_by_array,
+};
 use arrow2::datatypes;
 use arrow2::error::Result;
 use arrow2::types::Offset;
 use std::alloc::{AllocError, Global};
-use std::cmp::Ordering;
 use std::convert::TryFrom;
 use std::process::Abort;
 use std::rc::Rc;
@@ -89,85 +93,6 @@ fn without_first(rt: &impl Abort, array: PrimitiveArray<i64>, count: usize) -> P
     let len = array.len();
     assert_that(rt, count <= len);
     array.sliced(count, len - count)
-}
-
-/// Returns how the items of two lists compare, index by index: `None` where an item is null.
-pub(super) fn orders(
-    rt: &impl Abort,
-    alloc: Global,
-    left: &[Option<i64>],
-    right: &[Option<i64>],
-) -> Vec<Option<Ordering>> {
-    let mut orders = Vec::new(alloc);
-    for (left, right) in left.iter().zip(right) {
-        let order = match (left, right) {
-            (Some(left), Some(right)) => Some(left.cmp(right)),
-            _ => None,
-        };
-        ok(rt, orders.push(order));
-    }
-    orders
-}
-
-/// The results of a comparison where the left item is below, equal to and above the right one.
-pub(super) type Results = (bool, bool, bool);
-
-/// Checks that a comparison of two arrays, whose items compare so, has these results.
-pub(super) fn is_compared(
-    rt: &impl Abort,
-    alloc: Global,
-    call: Result<BooleanArray>,
-    orders: &[Option<Ordering>],
-    (below, equal, above): Results,
-) {
-    let mut list = Vec::new(alloc);
-    for order in orders {
-        let item = match order {
-            None => None,
-            Some(Ordering::Less) => Some(below),
-            Some(Ordering::Equal) => Some(equal),
-            Some(Ordering::Greater) => Some(above),
-        };
-        ok(rt, list.push(item));
-    }
-    assert_booleans(rt, alloc, call, list.as_slice());
-}
-
-/// Checks the six comparisons of two lists of equal length.
-fn comparisons_agree(rt: &impl Abort, alloc: Global, left: &[Option<i64>], right: &[Option<i64>]) {
-    let (a, b) = (array_of(rt, alloc, left, 5), array_of(rt, alloc, right, 66));
-    compares_pairs(rt, alloc, (&a, left), (&b, right));
-}
-
-/// An array of numbers, and the list that it is to be.
-type Of<'a, 'b> = (&'a PrimitiveArray<i64>, &'b [Option<i64>]);
-
-/// Checks the six comparisons of two arrays.
-fn compares_pairs(rt: &impl Abort, alloc: Global, (a, left): Of, (b, right): Of) {
-    assert_that(rt, a.len() == b.len());
-    let list = orders(rt, alloc, left, right);
-    let orders = list.as_slice();
-    is_compared(rt, alloc, eq(a, b), orders, (false, true, false));
-    is_compared(rt, alloc, neq(a, b), orders, (true, false, true));
-    is_compared(rt, alloc, lt(a, b), orders, (true, false, false));
-    is_compared(rt, alloc, lt_eq(a, b), orders, (true, true, false));
-    is_compared(rt, alloc, gt(a, b), orders, (false, false, true));
-    is_compared(rt, alloc, gt_eq(a, b), orders, (false, true, true));
-}
-
-#[test]
-fn comparisons_of_arrays_agree_with_lists(rt: HostRuntime) {
-    let alloc = rt.alloc();
-    for len in 0..=300 {
-        for (nulls, others) in [(0, 0), (3, 0), (0, 5), (3, 5)] {
-            let left = numbers_below(&rt, alloc, len, 3, nulls);
-            let right = numbers_below(&rt, alloc, len, 4, others);
-            comparisons_agree(&rt, alloc, left.as_slice(), right.as_slice());
-        }
-    }
-    let left = numbers_below(&rt, alloc, 1_000_000, 3, 3);
-    let right = numbers_below(&rt, alloc, 1_000_000, 4, 5);
-    comparisons_agree(&rt, alloc, left.as_slice(), right.as_slice());
 }
 
 /// Checks which items of a list are null.
@@ -381,6 +306,63 @@ pub(super) fn at_indices<T: Copy>(
     taken
 }
 
+/// Returns the flags as booleans, of which every fifth is null, whatever its flag is, and the items of a list where a
+/// boolean is true.
+pub(super) fn masked<T: Copy>(
+    rt: &impl Abort,
+    alloc: Global,
+    flags: &[bool],
+    items: &[T],
+) -> (BooleanArray, Vec<T>) {
+    let (mut known, mut kept) = (Vec::new(alloc), Vec::new(alloc));
+    for (index, (flag, item)) in flags.iter().zip(items).enumerate() {
+        ok(rt, known.push(index % 5 != 3));
+        if index % 5 != 3 && *flag {
+            ok(rt, kept.push(*item));
+        }
+    }
+    let validity = mask_of(rt, alloc, known.as_slice());
+    let mask = BooleanArray::try_new(mask_of(rt, alloc, flags), Some(validity));
+    (ok(rt, mask), kept)
+}
+
+/// Returns these indices of which every fourth is null, and the items of a list there.
+pub(super) fn keyed<T: Copy>(
+    rt: &impl Abort,
+    alloc: Global,
+    items: &[Option<T>],
+    indices: &[usize],
+) -> (PrimitiveArray<u32>, Vec<Option<T>>) {
+    let mut keys = ok(rt, MutablePrimitiveArray::<u32>::new(alloc));
+    let mut list = at_indices(rt, alloc, items, indices);
+    for (position, (index, item)) in indices.iter().zip(list.as_mut_slice()).enumerate() {
+        if position % 4 == 1 {
+            ok(rt, keys.push_null());
+            *item = None;
+        } else {
+            ok(rt, keys.push(u32::try_from(*index).ok()));
+        }
+    }
+    (ok(rt, keys.freeze()), list)
+}
+
+/// Returns whether each key is null or below `len`.
+pub(super) fn are_in_bounds(keys: &PrimitiveArray<u32>, len: usize) -> bool
+    ensures { IsTrue result ↔ All (IsInBoundsOrNull (λ key. pos key) len) (primitive_items keys.now) }
+{
+    keys.iter().all(|key| is_in_bounds(key, len))
+}
+
+/// Returns whether a key is null or below `len`.
+fn is_in_bounds(key: Option<u32>, len: usize) -> bool
+    ensures { IsTrue result ↔ IsInBoundsOrNull (λ key. pos key) len key }
+{
+    match key {
+        Some(key) => (key as usize) < len,
+        None => true,
+    }
+}
+
 /// Returns the items of two lists, one after the other.
 pub(super) fn concatenation<T: Copy>(
     rt: &impl Abort,
@@ -393,19 +375,22 @@ pub(super) fn concatenation<T: Copy>(
     items
 }
 
-/// Returns the texts at the indices below `len`, null at each index that `nulls` divides. With 0 none is null.
-fn texts_below(
+/// Returns the texts at the indices below `len`, each `times` times in a row, null at each index that `nulls` divides.
+/// With 0 none is null.
+pub(super) fn texts_below(
     rt: &impl Abort,
     alloc: Global,
     len: usize,
+    times: usize,
     nulls: usize,
 ) -> Vec<Option<&'static str>>
+    requires { 0 < times }
     ensures { length result.items ≡ len }
 {
-    let texts = ["", "a", "dé", "four", "\u{1f600}", "fifteen letters", "0"];
+    let texts = ["", "f", "dé", "four", "\u{1f600}", "fifteen letters", "0"];
     let mut items = Vec::new(alloc);
     for index in 0..len {
-        let text = texts[index % 7];
+        let text = texts[index / times % 7];
         let item = if nulls > 0 && index % nulls == 0 {
             None
         } else {
@@ -418,7 +403,11 @@ fn texts_below(
 }
 
 /// Returns the array of these texts, a slice of a slice that begins after two others.
-fn texts<O: Offset>(rt: &impl Abort, alloc: Global, items: &[Option<&str>]) -> Utf8Array<O>
+pub(super) fn texts<O: Offset>(
+    rt: &impl Abort,
+    alloc: Global,
+    items: &[Option<&str>],
+) -> Utf8Array<O>
     ensures { length (binary_items result) ≡ length items.now }
 {
     let mut array = ok(rt, MutableUtf8Array::<O>::new(alloc));
@@ -511,6 +500,26 @@ fn texts_are_taken<O: Offset>(rt: &impl Abort, alloc: Global, items: &[Option<&s
     assert_booleans(rt, alloc, is_not_null(&bytes), nulls.as_slice());
 }
 
+/// Selects texts and byte strings by booleans, and takes them at indices, of which some are null.
+fn texts_are_taken_by_arrays<O: Offset>(
+    rt: &impl Abort,
+    alloc: Global,
+    flags: &[bool],
+    items: &[Option<&str>],
+) {
+    let a = texts::<O>(rt, alloc, items);
+    let bytes = ok(rt, a.to_binary());
+    let (mask, list) = masked(rt, alloc, flags, items);
+    assert_that(rt, mask.len() == a.len() && bytes.len() == a.len());
+    has_texts(rt, filter_binary_by_array(&a, &mask), list.as_slice());
+    has_bytes(rt, filter_binary_by_array(&bytes, &mask), list.as_slice());
+    let indices = indices_below(rt, alloc, items.len());
+    let (keys, list) = keyed(rt, alloc, items, indices.as_slice());
+    assert_that(rt, are_in_bounds(&keys, a.len()));
+    has_texts(rt, take_binary_by_array(&a, &keys), list.as_slice());
+    has_bytes(rt, take_binary_by_array(&bytes, &keys), list.as_slice());
+}
+
 /// Checks the kernels of texts at a length.
 fn text_kernels_agree_at<O: Offset>(
     rt: &impl Abort,
@@ -519,12 +528,13 @@ fn text_kernels_agree_at<O: Offset>(
     nulls: usize,
     others: usize,
 ) {
-    let left = texts_below(rt, alloc, len, nulls);
-    let right = texts_below(rt, alloc, len, others);
+    let left = texts_below(rt, alloc, len, 1, nulls);
+    let right = texts_below(rt, alloc, len, 3, others);
     let flags = flags_of(rt, alloc, len);
     let (left, right) = (left.as_slice(), right.as_slice());
     text_kernels_agree::<O>(rt, alloc, flags.as_slice(), left, right);
     texts_are_taken::<O>(rt, alloc, left);
+    texts_are_taken_by_arrays::<O>(rt, alloc, flags.as_slice(), left);
 }
 
 #[test]
@@ -540,8 +550,16 @@ fn kernels_of_texts_agree_with_lists(rt: HostRuntime) {
     text_kernels_agree_at::<i64>(&rt, alloc, 1_000_000, 0, 4);
 }
 
-/// Returns the booleans at the indices below `len`, null at each index that `nulls` divides.
-fn booleans_below(rt: &impl Abort, alloc: Global, len: usize, nulls: usize) -> Vec<Option<bool>>
+/// Returns the booleans at the indices below `len`, of which about one in `period` is true, null at each index that
+/// `nulls` divides. With 0 none is null. Requires that `period` is above 1.
+pub(super) fn booleans_below(
+    rt: &impl Abort,
+    alloc: Global,
+    len: usize,
+    period: usize,
+    nulls: usize,
+) -> Vec<Option<bool>>
+    requires { 1 < period }
     ensures { length result.items ≡ len }
 {
     let mut items = Vec::new(alloc);
@@ -549,7 +567,7 @@ fn booleans_below(rt: &impl Abort, alloc: Global, len: usize, nulls: usize) -> V
         let item = if nulls > 0 && index % nulls == 0 {
             None
         } else {
-            Some(index % 3 == 1)
+            Some(index % period == 1)
         };
         ok(rt, items.push(item));
     }
@@ -558,7 +576,7 @@ fn booleans_below(rt: &impl Abort, alloc: Global, len: usize, nulls: usize) -> V
 }
 
 /// Returns the array of these booleans, a slice of a slice that begins after seven others.
-fn booleans(rt: &impl Abort, alloc: Global, items: &[Option<bool>]) -> BooleanArray
+pub(super) fn booleans(rt: &impl Abort, alloc: Global, items: &[Option<bool>]) -> BooleanArray
     ensures { length (boolean_items result) ≡ length items.now }
 {
     let mut array = MutableBooleanArray::new(alloc);
@@ -623,6 +641,28 @@ fn booleans_are_taken(rt: &impl Abort, alloc: Global, items: &[Option<bool>]) {
     assert_booleans(rt, alloc, is_null(&a), nulls.as_slice());
 }
 
+/// Selects booleans by booleans, and takes them at indices, of which some are null.
+fn booleans_are_taken_by_arrays(
+    rt: &impl Abort,
+    alloc: Global,
+    flags: &[bool],
+    items: &[Option<bool>],
+) {
+    let a = booleans(rt, alloc, items);
+    let (mask, list) = masked(rt, alloc, flags, items);
+    assert_that(rt, mask.len() == a.len());
+    assert_booleans(
+        rt,
+        alloc,
+        filter_boolean_by_array(&a, &mask),
+        list.as_slice(),
+    );
+    let indices = indices_below(rt, alloc, items.len());
+    let (keys, list) = keyed(rt, alloc, items, indices.as_slice());
+    assert_that(rt, are_in_bounds(&keys, a.len()));
+    assert_booleans(rt, alloc, take_boolean_by_array(&a, &keys), list.as_slice());
+}
+
 /// Checks the kernels of booleans at a length.
 fn boolean_kernels_agree_at(
     rt: &impl Abort,
@@ -631,12 +671,13 @@ fn boolean_kernels_agree_at(
     nulls: usize,
     others: usize,
 ) {
-    let left = booleans_below(rt, alloc, len, nulls);
-    let right = booleans_below(rt, alloc, len, others);
+    let left = booleans_below(rt, alloc, len, 3, nulls);
+    let right = booleans_below(rt, alloc, len, 3, others);
     let flags = flags_of(rt, alloc, len);
     let (left, right) = (left.as_slice(), right.as_slice());
     boolean_kernels_agree(rt, alloc, flags.as_slice(), left, right);
     booleans_are_taken(rt, alloc, left);
+    booleans_are_taken_by_arrays(rt, alloc, flags.as_slice(), left);
 }
 
 #[test]

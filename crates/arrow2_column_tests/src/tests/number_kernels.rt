@@ -1,14 +1,12 @@
 //! Kernels of numbers at each length up to 300, and on a million items, compared with plain code over lists.
-ghost use Rattle.std.specs.Prelude.{◌≡◌, ◌↔◌, All, IsTrue, length, pos};
-ghost use Rattle.arrow2.specs.Primitive.{primitive_items};
-ghost use Rattle.arrow2.specs.Take.{IsInBoundsOrNull};
+ghost use Rattle.std.specs.Prelude.{◌≡◌, length};
 
 use super::checks::{assert_array, assert_list, assert_text, assert_that, ok};
+use super::comparisons::{is_compared, orders};
 use super::kernels::{
-    array_of, at_indices, concatenation, either, flags_of, indices_below, is_compared, keep,
-    mask_of, numbers_below, orders, text_of_cast,
+    are_in_bounds, array_of, at_indices, concatenation, either, flags_of, indices_below, keep,
+    keyed, mask_of, masked, numbers_below, text_of_cast,
 };
-use arrow2::array::{BooleanArray, MutablePrimitiveArray, PrimitiveArray};
 use arrow2::compute::aggregate::sum;
 use arrow2::compute::cast::{primitive_to_primitive, try_primitive_to_primitive};
 use arrow2::compute::comparison::{
@@ -47,16 +45,8 @@ fn are_combined(
 
 /// Selects by booleans, of which every fifth is null.
 fn are_selected_by_booleans(rt: &impl Abort, alloc: Global, flags: &[bool], items: &[Option<i64>]) {
-    let (mut booleans, mut kept) = (Vec::new(alloc), Vec::new(alloc));
-    for (index, (flag, item)) in flags.iter().zip(items).enumerate() {
-        let known = index % 5 != 3;
-        ok(rt, booleans.push(known.then_some(*flag)));
-        if known && *flag {
-            ok(rt, kept.push(*item));
-        }
-    }
     let array = array_of(rt, alloc, items, 2);
-    let mask = ok(rt, BooleanArray::from_options(alloc, booleans.as_slice()));
+    let (mask, kept) = masked(rt, alloc, flags, items);
     assert_that(rt, mask.len() == array.len());
     assert_array(rt, alloc, filter_by_array(&array, &mask), kept.as_slice());
 }
@@ -69,36 +59,10 @@ fn are_taken(rt: &impl Abort, alloc: Global, items: &[Option<i64>], indices: &[u
     assert_array(rt, alloc, take(&array, indices), list.as_slice());
 }
 
-/// Returns whether each key is null or below `len`.
-fn are_in_bounds(keys: &PrimitiveArray<u32>, len: usize) -> bool
-    ensures { IsTrue result ↔ All (IsInBoundsOrNull (λ key. pos key) len) (primitive_items keys.now) }
-{
-    keys.iter().all(|key| is_in_bounds(key, len))
-}
-
-/// Returns whether a key is null or below `len`.
-fn is_in_bounds(key: Option<u32>, len: usize) -> bool
-    ensures { IsTrue result ↔ IsInBoundsOrNull (λ key. pos key) len key }
-{
-    match key {
-        Some(key) => (key as usize) < len,
-        None => true,
-    }
-}
-
 /// Takes the items at these indices, of which every fourth is null.
 fn are_taken_by_keys(rt: &impl Abort, alloc: Global, items: &[Option<i64>], indices: &[usize]) {
-    let mut keys = ok(rt, MutablePrimitiveArray::<u32>::new(alloc));
-    let mut list = at_indices(rt, alloc, items, indices);
-    for (position, (index, item)) in indices.iter().zip(list.as_mut_slice()).enumerate() {
-        if position % 4 == 1 {
-            ok(rt, keys.push_null());
-            *item = None;
-        } else {
-            ok(rt, keys.push(u32::try_from(*index).ok()));
-        }
-    }
-    let (array, keys) = (array_of(rt, alloc, items, 1), ok(rt, keys.freeze()));
+    let array = array_of(rt, alloc, items, 1);
+    let (keys, list) = keyed(rt, alloc, items, indices);
     assert_that(rt, are_in_bounds(&keys, array.len()));
     assert_array(rt, alloc, take_by_array(&array, &keys), list.as_slice());
 }

@@ -1,0 +1,7 @@
+use Rattle.std.proofs.Common.{rules}
+use Rattle.std.specs.Prelude.{not}
+use Rattle.arrow2_compute.specs.Comparisons.{bytes_eq}
+use Rattle.arrow2_compute.proofs.comparison.binary.neq.Goals as goal
+
+pub returns-clause-items : goal.returns-clause-items
+returns-clause-items g c = c.compare_pairs.ensures.items (λ left right. not (bytes_eq left right)) (search rules)

@@ -1,0 +1,15 @@
+use Rattle.std.proofs.Common.{◌≡◌, List, Bool, None, get_or, subst}
+use Rattle.std.specs.Prelude.{IfOk}
+use Rattle.arrow2_array.specs.Items.{boolean_items}
+use Rattle.arrow2_model.specs.Storage.{items_of}
+use Rattle.arrow2_primitive.specs.Primitive.{primitive_items}
+use Rattle.arrow2_compute.specs.Take.{item_at}
+use Rattle.arrow2_compute.proofs.ItemsAtIndices.{stated-each}
+use Rattle.arrow2_compute.proofs.take.tested_by_array.Goals as goal
+
+pub returns-clause-items : goal.returns-clause-items
+returns-clause-items g c outcome states =
+    let f = item_at g.I.Number.value (boolean_items c.args.array.now) in
+    let indices = primitive_items c.args.indices.now in
+    let stated = c.try_from_fn.ensures.items (λ position. outcome (f (get_or indices position None))) (λ position tested below returned. states (f (get_or indices position None)) tested returned) in
+    subst (λ (bits : List Bool). IfOk c.try_from_fn.result (λ b. items_of b ≡ bits)) (stated-each f outcome indices None c.len.result c.len.ensures.items) stated
