@@ -1,11 +1,10 @@
 //! Columns of texts, with nulls and without.
-ghost use Rattle.std.specs.Prelude.{◌<◌, length};
-ghost use Rattle.arrow2_text.specs.Binary.{binary_items};
-
 use crate::columns::bitmap;
 use crate::runs::on_each;
 use arrow2_bitmap::Bitmap;
+use arrow2_bitmap::bitmap_ops::and;
 use arrow2_buffer::Buffer;
+use arrow2_compute::comparison::binary::eq_scalar;
 use arrow2_compute::filter::filter_binary;
 use arrow2_datatypes::DataType;
 use arrow2_offset::OffsetsBuffer;
@@ -128,15 +127,11 @@ fn compare_with_first(texts: &Utf8Array<i64>) -> Result<usize> {
     if texts.is_empty() {
         return Ok(0);
     }
-    let first = texts.value(0);
-    let same = Bitmap::try_from_fn(
-        texts.values().allocator(),
-        texts.len(),
-        |index|
-            requires { index < length (binary_items texts.now) }
-        { texts.is_valid(index) & (texts.value(index) == first) },
-    )?;
-    Ok(same.unset_bits())
+    let same = eq_scalar(texts, texts.value(0).as_bytes())?;
+    match same.validity() {
+        Some(validity) => Ok(and(same.values(), validity)?.unset_bits()),
+        None => Ok(same.values().unset_bits()),
+    }
 }
 
 /// Returns 1 where a copy of the texts, sliced as the texts are, is equal to them.
