@@ -26,7 +26,8 @@ use std::ops::{BitAnd, BitAndAssign, BitOr, BitOrAssign, BitXor, BitXorAssign, N
 /// Differs from arrow2: the padding bits of the words count as false, and are false afterwards.
 pub fn unary_assign<T: BitChunk, F: Fn(T) -> T>(bitmap: &mut MutableBitmap, op: F)
     requires callable { F.IsAlwaysCallable op }
-    // If the results of `op` are those of a mathematical function `f` on words:
+    // If the results of `op` are those of a mathematical function `f` on words: the items are the bits of the results
+    // of `f` for the words of the list, the lowest `T.WIDTH` of each, in order, cut to the length of the list.
     ensures kernel { (f : ℕ → ℕ) → ComputesUnary T.WIDTH T.number (F.post op) f →
         bitmap.new.items ≡ unary_kernel T.WIDTH f bitmap.old.items }
     // For every truth table `t` by which `op` computes each bit: the items are the outputs of `t`.
@@ -54,7 +55,8 @@ pub fn unary_assign<T: BitChunk, F: Fn(T) -> T>(bitmap: &mut MutableBitmap, op: 
 pub fn binary_assign<T: BitChunk, F: Fn(T, T) -> T>(lhs: &mut MutableBitmap, rhs: &Bitmap, op: F)
     requires callable { F.IsAlwaysCallable op }
     requires same_length { length lhs.old.items ≡ length (items_of rhs.now) }
-    // If the results of `op` are those of a mathematical function `f` on words:
+    // If the results of `op` are those of a mathematical function `f` on words: the items are the bits of the results
+    // of `f` for the words of both lists at each index, the lowest `T.WIDTH` of each, in order, cut to their length.
     ensures kernel { (f : ℕ → ℕ → ℕ) → ComputesBinary T.WIDTH T.number (F.post op) f →
         lhs.new.items ≡ binary_kernel T.WIDTH f lhs.old.items (items_of rhs.now) }
     // For every truth table `t` by which `op` computes each bit: the items are the outputs of `t`.
@@ -76,7 +78,8 @@ pub fn binary_assign<T: BitChunk, F: Fn(T, T) -> T>(lhs: &mut MutableBitmap, rhs
 }
 
 /// Replaces each word by the result of `op` for it and the word of `chunks` at the same index, as `binary_assign` does.
-/// Requires that `chunks` has the length of the bitmap.
+/// Requires that `chunks` has as many items left as the bitmap has, and that the `requires` of `op` holds for any two
+/// words.
 fn assign_chunks<T: BitChunk, I: BitChunkIterExact<T> + Drop, F: Fn(T, T) -> T>(
     lhs: &mut MutableBitmap,
     chunks: I,
@@ -84,7 +87,8 @@ fn assign_chunks<T: BitChunk, I: BitChunkIterExact<T> + Drop, F: Fn(T, T) -> T>(
 )
     requires callable { F.IsAlwaysCallable op }
     requires same_length { length lhs.old.items ≡ length (I.cursor chunks).items }
-    // If the results of `op` are those of a mathematical function `f` on words:
+    // If the results of `op` are those of a mathematical function `f` on words: the items are the bits of the results
+    // of `f` for the words of both lists at each index, the lowest `T.WIDTH` of each, in order, cut to their length.
     ensures kernel { (f : ℕ → ℕ → ℕ) → ComputesBinary T.WIDTH T.number (F.post op) f →
         lhs.new.items ≡ binary_kernel T.WIDTH f lhs.old.items (I.cursor chunks).items }
     // For every truth table `t` by which `op` computes each bit: the items are the outputs of `t`.
@@ -244,7 +248,7 @@ impl Not for MutableBitmap {
 }
 
 /// Replaces each item by whether it and the item of `rhs` at the same index are both true. If every item of `rhs`
-/// is true, writes nothing.
+/// is true, writes nothing. Requires that both bitmaps have equal lengths.
 fn and_assign(lhs: &mut MutableBitmap, rhs: &Bitmap)
     requires same_length { length lhs.old.items ≡ length (items_of rhs.now) }
     // Table 8: true only for two true items.
@@ -259,7 +263,7 @@ fn and_assign(lhs: &mut MutableBitmap, rhs: &Bitmap)
 }
 
 /// Replaces each item by whether it or the item of `rhs` at the same index is true, or both. If every item of
-/// `rhs` is false, writes nothing.
+/// `rhs` is false, writes nothing. Requires that both bitmaps have equal lengths.
 fn or_assign(lhs: &mut MutableBitmap, rhs: &Bitmap)
     requires same_length { length lhs.old.items ≡ length (items_of rhs.now) }
     // Table 14: false only for two false items.
@@ -273,7 +277,8 @@ fn or_assign(lhs: &mut MutableBitmap, rhs: &Bitmap)
     }
 }
 
-/// Sets each item to true if it differs from the item of `rhs` at the same index, else to false.
+/// Sets each item to true if it differs from the item of `rhs` at the same index, else to false. Requires that both
+/// bitmaps have equal lengths.
 fn xor_assign(lhs: &mut MutableBitmap, rhs: &Bitmap)
     requires same_length { length lhs.old.items ≡ length (items_of rhs.now) }
     // Table 6: true where the two items differ.

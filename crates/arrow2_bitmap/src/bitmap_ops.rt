@@ -43,9 +43,9 @@ pub fn from_rows<S: WordRows<u64>, F: Fn(S::Row) -> u64>(
     requires callable { F.IsAlwaysCallable op }
     requires same_lengths { S.same_lengths rows }
     requires len { S.len rows ≡ len }
-    // If the lowest 64 bits of the results of `op` are those of a mathematical function `f` on rows, each given as the
-    // list of its words: the items are the bits of the results of `f` for the rows, in their order, cut to `len`. The
-    // number of a word of type `u64` is the word: `λ x. x`.
+    // If each result of `op` has the same 64 lowest bits as the result of a mathematical function `f` for the list of
+    // the row's words: the items are the 64 lowest bits of the results of `f` for the rows, one result after another,
+    // cut to `len`. The number of a word of type `u64` is the word: `λ x. x`.
     ensures items { (f : List ℕ → ℕ) → ComputesRows 64 S.words (λ x. x) (F.post op) f →
         IfOk result (λ b. items_of b ≡ bits_of_words 64 (λ j. f (S.row_at rows j)) len) }
     // If, besides, the rows are the words of some `lists` of booleans, the first of which has `len` items: the items
@@ -88,7 +88,8 @@ pub fn from_rows<S: WordRows<u64>, F: Fn(S::Row) -> u64>(
 /// `OutOfMemory` alone.
 pub fn unary<F: Fn(u64) -> u64>(lhs: &Bitmap, op: F) -> Result<Bitmap>
     requires callable { F.IsAlwaysCallable op }
-    // If the results of `op` are those of a mathematical function `f` on words:
+    // If the results of `op` are those of a mathematical function `f` on words: the items are the bits of the results
+    // of `f` for the words of the list, the lowest 64 of each, in order, cut to the length of the list.
     ensures kernel { (f : ℕ → ℕ) → ComputesUnary 64 (λ x. x) (F.post op) f →
         IfOk result (λ b. items_of b ≡ unary_kernel 64 f (items_of lhs.now)) }
     // For every truth table `t` by which `op` computes each bit: the items are the outputs of `t`.
@@ -130,7 +131,8 @@ pub fn unary<F: Fn(u64) -> u64>(lhs: &Bitmap, op: F) -> Result<Bitmap>
 pub fn binary<F: Fn(u64, u64) -> u64>(lhs: &Bitmap, rhs: &Bitmap, op: F) -> Result<Bitmap>
     requires callable { F.IsAlwaysCallable op }
     requires same_length { length (items_of lhs.now) ≡ length (items_of rhs.now) }
-    // If the results of `op` are those of a mathematical function `f` on words:
+    // If the results of `op` are those of a mathematical function `f` on words: the items are the bits of the results
+    // of `f` for the words of both lists at each index, the lowest 64 of each, in order, cut to their length.
     ensures kernel { (f : ℕ → ℕ → ℕ) → ComputesBinary 64 (λ x. x) (F.post op) f →
         IfOk result (λ b. items_of b ≡ binary_kernel 64 f (items_of lhs.now) (items_of rhs.now)) }
     // For every truth table `t` by which `op` computes each bit: the items are the outputs of `t`.
@@ -325,6 +327,10 @@ impl<'a, 'b> BitXor<&'b Bitmap> for &'a Bitmap {
 }
 
 /// Returns each item inverted. arrow2 returns no `Result`.
+///
+/// # Errors
+///
+/// `OutOfMemory` alone.
 impl<'a> Not for &'a Bitmap {
     type Output = Result<Bitmap>;
 

@@ -6,7 +6,8 @@ ghost use Rattle.arrow2_bitmap.specs.Failures.{too_long};
 use arrow2_types::{Error, Result};
 use std::alloc::{AllocError, Global};
 
-/// Returns an error if `len` is above eight times the number of bytes. The message names `subject`.
+/// Returns an error exactly where `len` is above eight times the number of bytes. The error is `InvalidArgumentError`
+/// with the message `too_long`, which begins with `subject`, or it is `OutOfMemory`.
 pub(crate) fn check_length(subject: &str, len: usize, bytes: &Vec<u8>) -> Result<()>
     ensures accepted { IsOk result ↔ (len ≤ 8 * vec_len bytes.now) }
     ensures rejected { FailsOnlyWith result (too_long subject.now len (vec_len bytes.now)) }

@@ -213,7 +213,7 @@ impl Bitmap {
     }
 
     /// Returns the bitmap of the items of an iterator, in its order. Requires that the iterator ends, and that its
-    /// `next` may be called: by std's contract of iterators it may then be called until the end.
+    /// `next` may be called a first time. (By std's contract of `next`, it may then be called again after each item.)
     ///
     /// Stands for arrow2's `FromIterator`, which allocates by the size hint. Here the size hint is not read.
     ///
@@ -360,6 +360,7 @@ impl Bitmap {
     /// Returns an iterator over the items, from both ends.
     pub fn iter(&self) -> BitmapIter<'_>
         ensures items { result ≡ items_of self.now }
+        // `fits` holds for every `Bitmap`: a `usize` counts its items.
         ensures fits { length (items_of self.now) < 2 ^ 64 }
     {
         BitmapIter::within(self.bytes.as_slice(), self.offset, self.length)
@@ -411,7 +412,8 @@ impl Bitmap {
     ///
     /// In the contract, `spill` is the word that `remainder` returns. From its lowest bit on it has the items after the
     /// full words, then stored bits that are no items, then zeros. The stored bits end with the byte of the last item
-    /// or, where the bitmap has no full word, with the last byte. Bits above the width of the word are left out.
+    /// or, where the bitmap has no full word, with the last byte of the storage. Bits above the width of the word are
+    /// left out.
     pub fn chunks<T: BitChunk>(&self) -> BitChunks<'_, T>
         ensures items { result.items ≡ items_of self.now }
         ensures fits { length (items_of self.now) < 2 ^ 64 }
@@ -472,9 +474,9 @@ impl Bitmap {
     }
 
     /// Slices as [`Bitmap::slice`] does, and adds to `reads` the number of bytes that it reads to count the false items
-    /// of the slice. It is proved that the number added is `slice_reads` of both ranges, and at most `L / 16 + 4`,
-    /// where `L` is the number of items before the call. No clause states that every byte that the call reads is
-    /// included.
+    /// of the slice. It is proved that the number added is `slice_reads` of four numbers: the bit offset and the length
+    /// before the call, `offset` and `len`. It is also proved to be at most `L / 16 + 4`, where `L` is the length
+    /// before the call. No clause states that every byte that the call reads is included.
     ///
     /// arrow2 counts no reads.
     pub fn slice_counted(&mut self, offset: usize, len: usize, reads: &mut Reads)
@@ -584,7 +586,7 @@ impl Bitmap {
     }
 }
 
-/// Returns a bitmap that grows, with a copy of the items. Allocates once.
+/// Returns a bitmap that grows, with a copy of the items. Allocates at most once. The only error is `OutOfMemory`.
 fn copy_items(bitmap: &Bitmap) -> Result<MutableBitmap>
     ensures ok { IfOk result (λ m. m.items ≡ items_of bitmap.now) }
     ensures only { IfErr result (λ e. e ≡ Error.OutOfMemory) }
@@ -609,6 +611,7 @@ fn copy_bytes(bitmap: &Bitmap) -> Result<MutableBitmap>
     Ok(MutableBitmap::from_vec(bytes, length))
 }
 
+/// Returns an iterator over the items, as [`Bitmap::iter`] does.
 impl<'a> IntoIterator for &'a Bitmap {
     type Item = bool;
 
@@ -648,8 +651,8 @@ impl Eq for Bitmap {
     ghost laws = { on_equiv items_of (lists_equiv bool_eq_equiv) };
 }
 
-/// Shares the bytes. Does not allocate: in the code it fails only if the reference count would overflow. No clause
-/// states that.
+/// Returns a bitmap with the same bytes, bit offset and length. Shares the bytes. Does not allocate: in the code it
+/// fails only if the reference count would overflow. No clause states that.
 impl Clone for Bitmap {
     ghost is_clone = { λ a b. b ≡ a };
 
@@ -663,8 +666,8 @@ impl Clone for Bitmap {
     }
 }
 
-/// Makes a bitmap over the same bytes. The only error is `OutOfMemory`, after which the items are dropped. arrow2 has
-/// `From`, which aborts if memory runs out.
+/// Makes a bitmap with the same items. It is over the same bytes, which are canonical. The only error is `OutOfMemory`.
+/// The items are then dropped. arrow2 has `From`, which aborts if memory runs out.
 impl TryFrom<MutableBitmap> for Bitmap {
     type Error = Error;
 

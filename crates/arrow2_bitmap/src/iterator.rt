@@ -104,6 +104,7 @@ impl Clone for IntoIter {
     }
 }
 
+/// Returns an iterator over the items, as [`IntoIter::new`] does.
 impl IntoIterator for Bitmap {
     type Item = bool;
 

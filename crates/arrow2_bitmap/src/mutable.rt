@@ -107,7 +107,7 @@ impl MutableBitmap {
         }
     }
 
-    /// Returns an empty bitmap with capacity for `capacity` bits.
+    /// Returns an empty bitmap with capacity for at least `capacity` items.
     ///
     /// # Errors
     ///
@@ -151,7 +151,7 @@ impl MutableBitmap {
     }
 
     /// Returns the bitmap of the items of an iterator, in its order. Requires that the iterator ends, and that its
-    /// `next` may be called: by std's contract of iterators it may then be called until the end.
+    /// `next` may be called a first time. (By std's contract of `next`, it may then be called again after each item.)
     ///
     /// Stands for arrow2's `FromIterator`, which allocates by the size hint. Here the size hint is not read.
     ///
@@ -195,8 +195,8 @@ impl MutableBitmap {
     ///
     /// # Errors
     ///
-    /// `Overflow` exactly where the length is `usize::MAX`, else `OutOfMemory` alone. After either error, the bitmap
-    /// holds the items that it held.
+    /// `Overflow` exactly where the length is `usize::MAX`. Else `OutOfMemory` alone, and never below the capacity.
+    /// After either error, the bitmap holds the items that it held. The capacity never falls.
     pub fn push(&mut self, value: bool) -> Result<()>
         ensures { Appends error_of result self.old self.new (value ∷ []) }
     {
@@ -209,8 +209,8 @@ impl MutableBitmap {
     ///
     /// # Errors
     ///
-    /// `Overflow` exactly where the new length would pass `usize::MAX`, else `OutOfMemory` alone. After either error,
-    /// the bitmap holds the items that it held.
+    /// `Overflow` exactly where the new length would pass `usize::MAX`. Else `OutOfMemory` alone, and never within the
+    /// capacity. After either error, the bitmap holds the items that it held. The capacity never falls.
     pub fn extend_constant(&mut self, additional: usize, value: bool) -> Result<()>
         ensures { Appends error_of result self.old self.new (replicate additional value) }
     {
@@ -224,8 +224,8 @@ impl MutableBitmap {
     ///
     /// # Errors
     ///
-    /// `Overflow` exactly where the new length would pass `usize::MAX`, else `OutOfMemory` alone. After either error,
-    /// the bitmap holds the items that it held.
+    /// `Overflow` exactly where the new length would pass `usize::MAX`. Else `OutOfMemory` alone, and never within the
+    /// capacity. After either error, the bitmap holds the items that it held. The capacity never falls.
     pub fn extend_from_slice(&mut self, slice: &[u8], offset: usize, len: usize) -> Result<()>
         requires inside { offset + len ≤ 8 * length slice.now }
         ensures { Appends error_of result self.old self.new (part (bits slice.now) offset len) }
@@ -239,8 +239,8 @@ impl MutableBitmap {
     ///
     /// # Errors
     ///
-    /// `Overflow` exactly where the new length would pass `usize::MAX`, else `OutOfMemory` alone. After either error,
-    /// the bitmap holds the items that it held.
+    /// `Overflow` exactly where the new length would pass `usize::MAX`. Else `OutOfMemory` alone, and never within the
+    /// capacity. After either error, the bitmap holds the items that it held. The capacity never falls.
     pub fn extend_from_bools(&mut self, items: &[bool]) -> Result<()>
         ensures { Appends error_of result self.old self.new items.now }
     {
@@ -253,8 +253,8 @@ impl MutableBitmap {
     ///
     /// # Errors
     ///
-    /// `Overflow` exactly where the new length would pass `usize::MAX`, else `OutOfMemory` alone. After either error,
-    /// the bitmap holds the items that it held.
+    /// `Overflow` exactly where the new length would pass `usize::MAX`. Else `OutOfMemory` alone, and never within the
+    /// capacity. After either error, the bitmap holds the items that it held. The capacity never falls.
     pub fn extend_from_bitmap(&mut self, bitmap: &Bitmap) -> Result<()>
         ensures { Appends error_of result self.old self.new (items_of bitmap.now) }
     {
@@ -267,8 +267,8 @@ impl MutableBitmap {
     ///
     /// # Errors
     ///
-    /// `Overflow` exactly where the length plus `additional` would pass `usize::MAX`, else `OutOfMemory` alone. After
-    /// either error, the bitmap holds the items that it held.
+    /// `Overflow` exactly where the length plus `additional` would pass `usize::MAX`. Else `OutOfMemory` alone, and
+    /// never within the capacity. After either error, the bitmap holds the items that it held.
     pub fn reserve(&mut self, additional: usize) -> Result<()>
         // The items stay; after `Ok`, `additional` more fit. `within_capacity` holds for every `MutableBitmap`: the
         // length is at most the capacity.
@@ -287,8 +287,9 @@ impl MutableBitmap {
         Ok(())
     }
 
-    /// Frees all capacity where there is no item. Else frees unused capacity if the allocator can; no clause states
-    /// that any is freed. Always returns `Ok`, also if a smaller block cannot be allocated. arrow2 returns no `Result`.
+    /// Keeps the items. Frees all capacity where there is no item. Else frees unused capacity if the allocator can; the
+    /// clauses then state only that the capacity does not rise. Always returns `Ok`, also if a smaller block cannot be
+    /// allocated. arrow2 returns no `Result`.
     pub fn shrink_to_fit(&mut self) -> Result<()>
         ensures ok { IsOk result }
         ensures items { self.new.items ≡ self.old.items }
@@ -322,7 +323,7 @@ impl MutableBitmap {
         Ok(Some(Bitmap::from_counted(bytes, length, unset_bits)?))
     }
 
-    /// Removes the last item and returns it, or returns `None` where there is none.
+    /// Removes the last item and returns it, or returns `None` where there is none. The capacity stays.
     pub fn pop(&mut self) -> Option<bool>
         ensures last { MatchOption result (self.old.items ≡ []) (λ item.
             self.old.items ≡ self.new.items ++ item ∷ []) }
@@ -364,6 +365,7 @@ impl MutableBitmap {
     /// Returns an iterator over the items, from both ends.
     pub fn iter(&self) -> BitmapIter<'_>
         ensures items { result ≡ self.now.items }
+        // `fits` holds for every `MutableBitmap`: a `usize` counts its items.
         ensures fits { length self.now.items < 2 ^ 64 }
     {
         BitmapIter::within(self.as_slice(), 0, self.len())
@@ -452,6 +454,7 @@ impl Clone for MutableBitmap {
     }
 }
 
+/// Returns an iterator over the items, as [`MutableBitmap::iter`] does.
 impl<'a> IntoIterator for &'a MutableBitmap {
     type Item = bool;
 

@@ -13,6 +13,8 @@ pub(crate) struct BoolWords<'a> {
     pub(crate) items: &'a [bool],
 }
 
+/// Gives the next 64 booleans as a row of one word, the first in the lowest bit, or none where fewer are left.
+/// `rest_row` gives those, filled with false, and requires that fewer than 64 are left.
 impl<'a> WordRows<u64> for BoolWords<'a> {
     type Row = u64;
 

@@ -33,12 +33,13 @@ pub extern "C" fn arrow2_offsets64_check_inside(
     check_inside(offsets, items, index)
 }
 
-/// Checks that the numbers are offsets of 32 bits, none is above the number of values, and the values of each slot,
-/// from its offset to the next, are UTF-8.
+/// Checks that the numbers are offsets of 32 bits, none is above the number of bytes in `values`, and the bytes of each
+/// slot, from its offset to the next, are UTF-8.
 ///
-/// Where `arrow2_offsets32_check_inside`, with the number of values as `items`, returns another code than `ARROW2_OK`,
-/// returns this code and writes the same index. Else returns `ARROW2_UTF8` exactly where the values of a slot are not
-/// UTF-8, and writes the first such slot to `index`. With `ARROW2_OK` `index` stays.
+/// Where `arrow2_offsets32_check_inside`, with the number of bytes as `items`, returns another code than `ARROW2_OK`,
+/// returns this code, and writes to `index` what that call writes: with `ARROW2_SPEC_EMPTY` and `ARROW2_SPEC_NEGATIVE`
+/// nothing. Else returns `ARROW2_UTF8` exactly where the bytes of a slot are not UTF-8, and writes the first such slot
+/// to `index`. With `ARROW2_OK` `index` stays.
 #[unsafe(no_mangle)]
 pub extern "C" fn arrow2_texts32_check(offsets: &[i32], values: &[u8], index: &mut usize) -> u32
     ensures { ChecksTexts result offsets.now values.now index.old index.new }

@@ -26,9 +26,9 @@ fn words(bits: Bits<'_>, len: usize) -> OneList<BitChunks<'_, u64>>
     }
 }
 
-/// Replaces each word of the first `len` bits by the result of `op` for the word and its row of words. Requires that
-/// `bytes` has exactly the bytes that `len` bits need, that each list of the rows has `len` items, and that `op` may be
-/// called with all words.
+/// Replaces each word of the first `len` bits by the result of `op` for the word and its row of words. The clauses
+/// state the new bits only where `op` computes a truth table, bit by bit. Requires that `bytes` has exactly the bytes
+/// that `len` bits need, that each list of the rows has `len` items, and that `op` accepts every word and row.
 fn assign_outputs<S: WordRows<u64>, F: Fn(u64, S::Row) -> u64>(
     bytes: &mut [u8],
     len: usize,
@@ -39,9 +39,10 @@ fn assign_outputs<S: WordRows<u64>, F: Fn(u64, S::Row) -> u64>(
     requires same_lengths { S.same_lengths rows }
     requires len { S.len rows ≡ len }
     requires exact { HasBytesForBits bytes.old len }
-    // No padding bit is set. If each bit of a result of `op` is the output of table `t` for the bits at its index of
-    // the word and of the words of the row, and row j has word j of each of `lists`: each of the first `len` bits is
-    // replaced by the output of `t` for this bit, then the items of `lists` at its index.
+    // `canonical`: there are exactly the bytes that `len` bits need, and no padding bit is set.
+    // `items` holds for each table `t` and all `lists` with these two properties. (1) Bit i of a result of `op` is the
+    // output of `t` for bit i of the word, then bit i of each word of the row. (2) Row j has word j of each list. Then
+    // each of the first `len` bits becomes the output of `t` for this bit, then the items of `lists` at its index.
     ensures canonical { IsCanonical bytes.new len }
     ensures items { (t : ℕ) (lists : List (List Bool)) →
         IsBitwiseOnOwnRows 64 S.words (λ x. x) (F.post op) t →
@@ -148,8 +149,8 @@ pub(crate) fn write_four<const T: u16>(
 }
 
 /// Overwrites `out`, from bit 0 on, with the first `len` bits. Requires that they are inside their bytes, and that
-/// `out` has exactly the bytes that they need. The function is inlined: for 64 bytes a call would be a fifth of the run
-/// time.
+/// `out` has exactly the bytes that they need. Padding bits become 0. The function is inlined: for 64 bytes a call
+/// would be a fifth of the run time.
 #[inline(always)]
 pub(crate) fn copy(bits: Bits<'_>, len: usize, out: &mut [u8])
     requires inside { HasBits bits len }
@@ -186,9 +187,9 @@ fn copy_bytes(bytes: &[u8], len: usize, out: &mut [u8])
     clear_padding(out, len);
 }
 
-/// Replaces the first `len` bits by the outputs of table `t` for them and the first `len` bits of the second input.
-/// Requires that `bytes` has exactly the bytes that `len` bits need, and that the bits of the second input are inside
-/// their bytes.
+/// Replaces the first `len` bits of `bytes` by the outputs of table `t` for them and the first `len` bits of the second
+/// input. Padding bits become 0. Requires that `bytes` has exactly the bytes that `len` bits need, and that the bits of
+/// the second input are inside their bytes.
 pub(crate) fn assign_two(bytes: &mut [u8], len: usize, second: Bits<'_>, t: u8)
     requires exact { HasBytesForBits bytes.old len }
     requires second { HasBits second len }

@@ -8,8 +8,9 @@ use crate::codes::{ARROW2_INDEX, ARROW2_OK, ARROW2_RANGE};
 use crate::validities::{covers_items, is_valid};
 use arrow2_index::Index;
 
-/// Checks that each item is null or an index below `items`. Writes to `slot` the position of the first item that is
-/// neither.
+/// Checks that each item is null or an index below `items`. Returns `ARROW2_RANGE` exactly where there is a validity
+/// that does not have a bit for each item, else `ARROW2_INDEX` exactly where an item is neither null nor such an index.
+/// With `ARROW2_INDEX` writes to `slot` the position of the first such item. With any other code writes nothing.
 pub(crate) fn check<I: Index>(
     indices: &[I],
     validity: Option<Bits<'_>>,

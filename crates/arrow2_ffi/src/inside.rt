@@ -10,8 +10,10 @@ use arrow2_index::Offset;
 use arrow2_offset::slices::last;
 use arrow2_utf8::{BrokenTextArray, BrokenTexts, try_check_offsets_and_utf8};
 
-/// Checks that the numbers are offsets, and none is above `items`. With `ARROW2_SPEC_FALLING` writes the index of the
-/// first number that is below the one before it, with `ARROW2_PAST` the index of the first number above `items`.
+/// Checks that the numbers are offsets, and none is above `items`. Returns the code of the first rule that they break,
+/// else `ARROW2_PAST` exactly where the last one is above `items`. With `ARROW2_SPEC_FALLING` writes the index of the
+/// first number that is below the one before it, with `ARROW2_PAST` the index of the first number above `items`. With
+/// any other code writes nothing.
 pub(crate) fn check_inside<O: Offset>(offsets: &[O], items: usize, index: &mut usize) -> u32
     ensures { ChecksOffsets result (map O.value offsets.now) items index.old index.new }
 {
@@ -28,8 +30,10 @@ pub(crate) fn check_inside<O: Offset>(offsets: &[O], items: usize, index: &mut u
     ARROW2_OK
 }
 
-/// Checks that the numbers are offsets, none is above the number of values, and the values of each slot are UTF-8.
-/// Writes the index that `check_inside` writes, or with `ARROW2_UTF8` the first slot that is not UTF-8.
+/// Checks that the numbers are offsets, none is above the number of bytes in `values`, and the bytes of each slot are
+/// UTF-8. Where the code of `check_inside` is not `ARROW2_OK`, returns this code, and writes what that call writes.
+/// Else returns `ARROW2_UTF8` exactly where a slot is not UTF-8, and writes the first such slot. With `ARROW2_OK`
+/// writes nothing.
 pub(crate) fn check_texts<O: Offset>(offsets: &[O], values: &[u8], index: &mut usize) -> u32
     ensures { ChecksTexts result (map O.value offsets.now) values.now index.old index.new }
 {
@@ -48,6 +52,8 @@ pub(crate) fn check_texts<O: Offset>(offsets: &[O], values: &[u8], index: &mut u
 
 /// Returns the index of the first number that is below the one before it, or the length of `offsets` if there is none.
 fn first_falling<O: Offset>(offsets: &[O]) -> usize
+    // `before`: no number at an index below the result is below the one before it. `found`: if the result is an index,
+    // the number there is the first that is below the one before it. So without such a number the result is the length.
     ensures before { (k : ℕ) → k + 1 < result → slice_index_or (map O.value offsets.now) k (pos 0)
         ≤ℤ slice_index_or (map O.value offsets.now) (k + 1) (pos 0) }
     ensures found { result < length offsets.now → IsFirstFalling (map O.value offsets.now) result }

@@ -199,9 +199,12 @@ pub extern "C" fn arrow2_or_kleene_optional(
     write::<OR_VALUES, OR_KNOWN, OR_KNOWN_PAIRED>(lhs, rhs, length, values, validity)
 }
 
-/// Writes the values by table `VALUES` of two inputs, and the validity as `write_known` does, which states what it
-/// requires of the tables. The clause `written` states something only if an operator `f` exists that `VALUES` and
-/// `KNOWN` compute, as they do for AND and for OR.
+/// Writes the values by table `VALUES`, and the validity by tables `KNOWN` and `PAIRED`, as `write_known` does.
+/// Requires of `KNOWN` and `PAIRED` what `write_known` requires of them.
+///
+/// With another code than `ARROW2_OK` both outputs stay as they were. The clause `written` states codes and outputs, as
+/// `WritesKleene` has them, for each operator `f` that `VALUES` and `KNOWN` compute. For AND and for OR there is one.
+/// If there is none, `written` states nothing.
 fn write<const VALUES: u8, const KNOWN: u16, const PAIRED: u8>(
     lhs: Side<'_>,
     rhs: Side<'_>,
@@ -234,12 +237,17 @@ fn is_inside(side: Side<'_>, length: usize) -> bool
     are_inside(side.values, length) && covers_items(side.validity, length)
 }
 
-/// Writes which results are not null. Where both sides have a validity, uses table `KNOWN` of both values and
-/// validities. Where only one side has a validity, uses table `PAIRED`: its inputs are value and validity of that side,
-/// then the value of the other side. Where neither has one, no result is null. Requires that the output of `PAIRED` is
-/// that of `KNOWN` for a validity of the other side that is true, and that the output of `KNOWN` is true where both
-/// validities are. Also requires that `out` has exactly the bytes that `length` bits need, and that `length` bits of
-/// the values of each side, and of its validity if it has one, are inside their bytes.
+/// Writes which results are not null: the outputs of table `KNOWN` for value and validity of the left side, then of the
+/// right side. A missing validity counts as true. Padding bits become 0.
+///
+/// Requires two things of the tables. Where one side is valid, the output of `PAIRED` is that of `KNOWN`: the inputs of
+/// `PAIRED` are value and validity of the other side, be it the left or the right one, then the value of the valid
+/// side. Where both sides are valid, the output of `KNOWN` is true. Also requires that `out` has exactly the bytes that
+/// `length` bits need, and that `length` bits of the values of each side, and of its validity if it has one, are inside
+/// their bytes.
+///
+/// In the code, `KNOWN` is used where both sides have a validity, `PAIRED` where only one side has one, and a table
+/// that is always true where neither has one.
 fn write_known<const KNOWN: u16, const PAIRED: u8>(
     out: &mut [u8],
     length: usize,

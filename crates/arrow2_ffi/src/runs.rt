@@ -10,10 +10,11 @@ use arrow2_walks::{BitCursor, find_bit};
 /// Finds the runs of set bits among the `length` bits from bit `offset` on. Indices are relative to `offset`: index 0
 /// is bit `offset`. The search begins at index `at`. If `at` is inside a run, only the part of that run from `at` on is
 /// found. Writes to `starts` the index at which each run begins, and to `lengths` its length in bits, until the slices
-/// are full or no run is left. Writes to `count` how many runs it wrote, and to `at` where the next call goes on. When
-/// `count` is below the length of the slices, all runs have been found. With slices of length 0 that never happens:
-/// `count` is 0 then, and `at` may stay as it was. Two things are not specified: what the slices hold from `count` on,
-/// and, where they are full, the exact value of `at`: it is between the end of the last run written and the next run.
+/// are full or no run is left. Writes to `count` how many runs it wrote, and to `at` where the next call goes on. If
+/// `count` is below the length of the slices, no run is left, and `at` is `length`. If the slices are full, runs may be
+/// left. The exact value of `at` is then not specified: it is at least the end of the last run written, and at most the
+/// start of the next run, or at most `length` if there is none. With slices of length 0, `count` is always 0, runs may
+/// be left, and `at` may stay as it was. What the slices hold from `count` on is not specified.
 ///
 /// Returns `ARROW2_RANGE` exactly where the bits are not inside, or `at` is above `length`; else `ARROW2_LENGTH`
 /// exactly where `starts` and `lengths` differ in length.

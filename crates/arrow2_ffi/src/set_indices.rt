@@ -14,9 +14,10 @@ use arrow2_chunk::{BitChunk, BitChunkOnes};
 /// Finds the set bits among the `length` bits from bit `offset` on. Indices are relative to `offset`: index 0 is bit
 /// `offset`. The search begins at index `at`. Writes the indices of set bits to `indices`, in rising order, until
 /// `indices` is full or no set bit is left. Writes to `count` how many indices it wrote, and to `at` where the next
-/// call goes on. When `count` is below the length of `indices`, all set bits have been found. With `indices` of length
-/// 0 that never happens: `count` is 0 then. Two things are not specified: what `indices` holds from `count` on, and,
-/// where it is full, the exact value of `at`: it is above the last index written, and at most that of the next set bit.
+/// call goes on. If `count` is below the length of `indices`, no set bit is left, and `at` is `length`. If `indices` is
+/// full, set bits may be left. The exact value of `at` is then not specified: it is above the last index written, and
+/// at most the index of the next set bit, or at most `length` if there is none. With `indices` of length 0, `count` is
+/// always 0, and set bits may be left. What `indices` holds from `count` on is not specified.
 ///
 /// Returns `ARROW2_RANGE` exactly where the bits are not inside, or `at` is above `length`.
 #[unsafe(no_mangle)]

@@ -23,13 +23,13 @@ pub(crate) const LEAST_CAPACITY: usize = 120;
 const SECOND_CAPACITY: usize = 512;
 
 /// Appends the lengths that an iterator yields. On an error, removes the appended lengths again. Requires that the
-/// items of the vector are offsets, that the iterator ends, and that each call of its `next` meets the precondition of
-/// `next`. Does not read the iterator's size hint.
+/// items of the vector are offsets, that the iterator ends, and that its `next` may be called a first time. (By std's
+/// contract of `next`, it may then be called again after each item.) Does not read the iterator's size hint.
 ///
 /// # Errors
 ///
-/// `Overflow` or `OutOfMemory`. `Overflow` is possible only if the last offset plus the sum of lengths that the
-/// iterator may yield exceeds `O::MAX`.
+/// `Overflow` or `OutOfMemory`. `Overflow` is possible only if the iterator may yield lengths whose sum, added to the
+/// last offset, passes `O::MAX`; `OutOfMemory` only if it may yield more lengths than the spare capacity.
 pub(crate) fn append_lengths<O: Offset, I: Iterator<Item = usize> + Drop>(
     offsets: &mut Vec<O>,
     lengths: I,
@@ -105,8 +105,8 @@ fn append_sums<O: Offset, I: Iterator<Item = usize> + Drop>(
     (offsets, Ok(()))
 }
 
-/// Reserves capacity for more lengths. Returns the vector, also where the allocation fails. After `Ok` it has spare
-/// capacity.
+/// Reserves capacity for more lengths. Returns the vector with the same items, also where the allocation fails. The
+/// capacity never falls. After `Ok` there is spare capacity.
 fn with_spare_capacity<O>(mut offsets: Vec<O>) -> (Vec<O>, Result<(), AllocError>)
     ensures items { result.0.items ≡ offsets.items }
     ensures capacity { vec_capacity offsets ≤ vec_capacity result.0 }
@@ -116,8 +116,8 @@ fn with_spare_capacity<O>(mut offsets: Vec<O>) -> (Vec<O>, Result<(), AllocError
     (offsets, outcome)
 }
 
-/// Reserves capacity for more lengths: for `additional_lengths` more. The contract states only that there is spare
-/// capacity. There is one offset more than there are lengths.
+/// Reserves capacity for `additional_lengths` more lengths: a vector of n offsets has n - 1 lengths. The contract
+/// states only that the items stay, that the capacity never falls, and that there is spare capacity after `Ok`.
 #[cold]
 #[inline(never)]
 fn grow_capacity<O>(offsets: &mut Vec<O>) -> Result<(), AllocError>

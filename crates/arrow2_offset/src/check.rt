@@ -41,8 +41,8 @@ pub fn broken_rule<O: Offset>(offsets: &[O]) -> Option<BrokenRule>
     None
 }
 
-/// Returns an error where the items are not offsets: `OutOfSpec` with the text of the rule that they break, or
-/// `OutOfMemory`.
+/// Returns an error exactly where the items are not offsets: `OutOfSpec` with the text of the first rule that they
+/// break, or `OutOfMemory`.
 pub(crate) fn try_check_offsets<O: Offset>(alloc: Global, offsets: &[O]) -> Result<()>
     ensures ok { OnOk result (AreOffsetsUpTo O.MAX (map O.value offsets.now)) }
     ensures accepted { AreOffsets (map O.value offsets.now) → IsOk result }

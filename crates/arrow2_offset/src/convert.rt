@@ -54,7 +54,8 @@ impl TryFrom<Offsets<i64>> for Offsets<i32> {
     }
 }
 
-/// Returns a copy of the same offsets, in 64 bits each. The last one is at most 2147483647, since it had 32 bits.
+/// Returns a copy of the same offsets, in 64 bits each. The last one is at most 2147483647, since it had 32 bits. The
+/// storage of the copy has these offsets alone, also where `offsets` is sliced.
 ///
 /// Stands for arrow2's `From`.
 ///
@@ -74,7 +75,8 @@ impl<'a> TryFrom<&'a OffsetsBuffer<i32>> for OffsetsBuffer<i64> {
     }
 }
 
-/// Returns a copy of the same offsets, in 32 bits each.
+/// Returns a copy of the same offsets, in 32 bits each. The storage of the copy has these offsets alone, also where
+/// `offsets` is sliced.
 ///
 /// # Errors
 ///

@@ -170,8 +170,8 @@ impl<O: Offset> OffsetsBuffer<O> {
         &offsets[offsets.len() - 1]
     }
 
-    /// Returns where slot `index` starts and where it ends. Requires that `index` is below
-    /// [`OffsetsBuffer::len_proxy`].
+    /// Returns where slot `index` starts and where it ends. The end is at most the last offset. Requires that `index`
+    /// is below [`OffsetsBuffer::len_proxy`].
     ///
     /// arrow2's documentation states [`OffsetsBuffer::len`] as the bound.
     pub fn start_end(&self, index: usize) -> (usize, usize)
@@ -339,8 +339,11 @@ impl<O: Offset> Index<usize> for OffsetsBuffer<O> {
     }
 }
 
-/// Shares the storage. Does not allocate. It returns `AllocError` only if the reference count would overflow, which no
-/// clause states.
+/// Returns the same offsets, over the same storage. Does not allocate.
+///
+/// # Errors
+///
+/// `AllocError`. The code returns it only if the reference count would overflow; no clause states that.
 impl<O: Offset> Clone for OffsetsBuffer<O> {
     ghost is_clone = { λ b copy. copy ≡ b };
 

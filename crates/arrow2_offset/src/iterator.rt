@@ -30,7 +30,7 @@ impl<'a, O: Offset> Model for Lengths<'a, O> {
 }
 
 impl<'a, O: Offset> Lengths<'a, O> {
-    /// Returns an iterator over the lengths between the offsets.
+    /// Returns an iterator over the lengths between the offsets. Requires that the numbers are offsets.
     pub(crate) fn new(offsets: &'a [O]) -> Lengths<'a, O>
         requires { AreOffsets (map O.value offsets.now) }
         ensures { result ≡ lengths_of (map O.value offsets.entry.now) }
@@ -39,7 +39,7 @@ impl<'a, O: Offset> Lengths<'a, O> {
     }
 }
 
-/// Returns an iterator with the same lengths still to come. Does not allocate.
+/// Returns an iterator with the same lengths still to come. Always returns `Ok`. Does not allocate.
 impl<'a, O: Offset> Clone for Lengths<'a, O> {
     ghost is_clone = { λ cursor copy. copy ≡ cursor };
 

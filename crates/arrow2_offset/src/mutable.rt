@@ -114,8 +114,8 @@ impl<O: Offset> Offsets<O> {
     }
 
     /// Returns offsets that start at 0, with the lengths that an iterator yields. Requires that the iterator ends, and
-    /// that its `next` may be called: by std's contract of iterators it may then be called until the end. Does not read
-    /// its size hint.
+    /// that its `next` may be called a first time. (By std's contract of `next`, it may then be called again after each
+    /// item.) Does not read its size hint.
     ///
     /// # Errors
     ///
@@ -194,8 +194,9 @@ impl<O: Offset> Offsets<O> {
         Ok(())
     }
 
-    /// Frees unused capacity if the allocator can: no clause states that any is freed. Always returns `Ok`, also if a
-    /// smaller block cannot be allocated. arrow2 returns no `Result`.
+    /// Frees unused capacity if the allocator can: no clause states that any is freed. The offsets stay, and the
+    /// capacity never rises. Always returns `Ok`, also if a smaller block cannot be allocated. arrow2 returns no
+    /// `Result`.
     pub fn shrink_to_fit(&mut self) -> Result<()>
         ensures ok { IsOk result }
         ensures items { SameOffsets self.old self.new }
@@ -235,9 +236,9 @@ impl<O: Offset> Offsets<O> {
         Ok(())
     }
 
-    /// Appends the lengths that an iterator yields. Requires that the iterator ends, and that its `next` may be called:
-    /// by std's contract of iterators it may then be called until the end. Its size hint is not read. Within the
-    /// capacity the call does not allocate.
+    /// Appends the lengths that an iterator yields. Requires that the iterator ends, and that its `next` may be called
+    /// a first time. (By std's contract of `next`, it may then be called again after each item.) Its size hint is not
+    /// read. Within the capacity the call does not allocate.
     ///
     /// Differs from arrow2, which wraps in its sums, and which keeps the appended lengths where it returns `Overflow`.
     ///
@@ -330,7 +331,8 @@ impl<O: Offset> Offsets<O> {
         &self.offsets[self.offsets.len() - 1]
     }
 
-    /// Returns where slot `index` starts and where it ends. Requires that `index` is below [`Offsets::len_proxy`].
+    /// Returns where slot `index` starts and where it ends. The end is at most the last offset. Requires that `index`
+    /// is below [`Offsets::len_proxy`].
     ///
     /// arrow2's documentation states [`Offsets::len`] as the bound.
     pub fn start_end(&self, index: usize) -> (usize, usize)
@@ -368,6 +370,7 @@ impl<O: Offset> Offsets<O> {
     }
 
     /// Removes the last offset and returns it, or returns `None` where only the first is left; then nothing changes.
+    /// The capacity stays.
     pub fn pop(&mut self) -> Option<O>
         ensures last { MatchOption result (self.old.lengths ≡ []) (λ offset.
             (0 < slots self.old) × (O.value offset ≡ pos (last_of_growing self.old))) }
@@ -381,7 +384,8 @@ impl<O: Offset> Offsets<O> {
         Some(offset)
     }
 
-    /// Returns the vector of the offsets. Does not allocate.
+    /// Returns the vector of the offsets. Its capacity counts offsets, so it is one more than that of `self`, which
+    /// counts lengths. Does not allocate.
     pub fn into_inner(self) -> Vec<O>
         ensures offsets { map O.value result.items ≡ map pos (offsets_of self) }
         ensures lengths { lengths_of (map O.value result.items) ≡ self.lengths }
@@ -446,7 +450,7 @@ impl<O: Offset> Offsets<O> {
         self.offsets.push_reserved(O::from_as_usize(last + len));
     }
 
-    /// Keeps the first `count` slots.
+    /// Keeps the first `count` slots. Requires that `count` is at most the number of slots. The capacity stays.
     fn truncate(&mut self, count: usize)
         requires { count ≤ slots self.old }
         ensures start { self.new.start ≡ self.old.start }
@@ -457,7 +461,8 @@ impl<O: Offset> Offsets<O> {
     }
 
     /// Appends the lengths that an iterator yields. On an error, removes the appended lengths again. Requires that the
-    /// iterator ends, and that each call of its `next` meets the precondition of `next`.
+    /// iterator ends, and that its `next` may be called a first time. (By std's contract of `next`, it may then be
+    /// called again after each item.)
     fn extend_lengths<I: Iterator<Item = usize> + Drop>(
         &mut self,
         lengths: I,
@@ -470,7 +475,8 @@ impl<O: Offset> Offsets<O> {
         append_lengths(&mut self.offsets, lengths)
     }
 
-    /// Appends the length of each slot of other offsets. Tests their sum before it allocates, which no clause states.
+    /// Appends the length of each slot of other offsets. Requires that the numbers are offsets. Tests their sum before
+    /// it allocates, which no clause states.
     fn append(&mut self, offsets: &[O]) -> std::result::Result<(), GrowthError>
         requires { AreOffsets (map O.value offsets.now) }
         ensures { GrowsUpTo (λ error. error) result self.old self.new
@@ -509,7 +515,7 @@ impl<O: Offset> TryFrom<Vec<O>> for Offsets<O> {
     }
 }
 
-/// A copy of the offsets.
+/// Returns a copy of the offsets. No clause states its capacity.
 ///
 /// # Errors
 ///

@@ -4,7 +4,7 @@ ghost use Rattle.arrow2_offset.specs.Offsets.{AreOffsets, offset_at, start_of, l
 
 use arrow2_index::Offset;
 
-/// Returns the sum of the lengths between the offsets.
+/// Returns the sum of the lengths between the offsets. Requires that the numbers are offsets.
 pub(crate) fn total_length<O: Offset>(offsets: &[O]) -> usize
     requires { AreOffsets (map O.value offsets.now) }
     ensures { result ≡ sum (lengths_of (map O.value offsets.now)) }
@@ -12,7 +12,8 @@ pub(crate) fn total_length<O: Offset>(offsets: &[O]) -> usize
     offsets[0].distance_to(offsets[offsets.len() - 1])
 }
 
-/// Returns where slot `index` starts and where it ends. Requires that `index` is below the number of slots.
+/// Returns where slot `index` starts and where it ends. The end is at most the last offset. Requires that the numbers
+/// are offsets, and that `index` is below the number of slots.
 #[tactic(auto, using(crate::proofs::BufferParts::frozen))]
 pub(crate) fn slot_span<O: Offset>(offsets: &[O], index: usize) -> (usize, usize)
     requires valid { AreOffsets (map O.value offsets.now) }

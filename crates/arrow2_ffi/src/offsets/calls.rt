@@ -37,6 +37,9 @@ pub(crate) fn check<O: Offset>(offsets: &[O]) -> u32
 }
 
 /// Writes the length of each slot: the next offset minus its own.
+///
+/// Returns the code of `check` where the numbers are not offsets, else `ARROW2_LENGTH` exactly where the number of
+/// items of `lengths` is not that of `offsets` minus 1. Writes nothing but with `ARROW2_OK`.
 pub(crate) fn lengths<O: Offset>(offsets: &[O], lengths: &mut [usize]) -> u32
     ensures { WritesFromOffsets result (map O.value offsets.now)
         (length offsets.now ≡ length lengths.old + 1)
@@ -49,6 +52,9 @@ pub(crate) fn lengths<O: Offset>(offsets: &[O], lengths: &mut [usize]) -> u32
 }
 
 /// Writes the length of each slot, and tests no offset. Requires that the numbers are offsets.
+///
+/// Returns `ARROW2_LENGTH` exactly where the number of items of `lengths` is not that of `offsets` minus 1. Writes
+/// nothing but with `ARROW2_OK`.
 pub(crate) fn lengths_unchecked<O: Offset>(offsets: &[O], lengths: &mut [usize]) -> u32
     requires valid { AreOffsets (map O.value offsets.now) }
     ensures { WritesFromOffsets result (map O.value offsets.now)
@@ -63,6 +69,10 @@ pub(crate) fn lengths_unchecked<O: Offset>(offsets: &[O], lengths: &mut [usize])
 }
 
 /// Writes `start`, then for each length the number written last plus this length.
+///
+/// Returns `ARROW2_LENGTH` exactly where the number of items of `offsets` is not that of `lengths` plus 1, else
+/// `ARROW2_OVERFLOW` exactly where `start` and all lengths, added up exactly, are above `O::MAX`. Writes nothing but
+/// with `ARROW2_OK`.
 pub(crate) fn sums<O: Offset>(start: usize, lengths: &[usize], offsets: &mut [O]) -> u32
     ensures length { result ≡ ARROW2_LENGTH ↔ (length offsets.old ≢ length lengths.now + 1) }
     ensures overflow { result ≡ ARROW2_OVERFLOW ↔
@@ -83,6 +93,10 @@ pub(crate) fn sums<O: Offset>(start: usize, lengths: &[usize], offsets: &mut [O]
 }
 
 /// Sets `out[i]` to `offsets[from + i] - offsets[from]`, for each item `i` of `out`.
+///
+/// Returns the code of `check` where the numbers are not offsets, else `ARROW2_LENGTH` exactly where `out` has no item,
+/// else `ARROW2_RANGE` exactly where `from` plus the number of items of `out` is above that of `offsets`. Writes
+/// nothing but with `ARROW2_OK`.
 pub(crate) fn rebase<O: Offset>(offsets: &[O], from: usize, out: &mut [O]) -> u32
     ensures { RebasesTo result (map O.value offsets.now) from (length out.old)
         (map O.value out.new) (out.new ≡ out.old) }
@@ -95,6 +109,9 @@ pub(crate) fn rebase<O: Offset>(offsets: &[O], from: usize, out: &mut [O]) -> u3
 
 /// Sets `out[i]` to `offsets[from + i] - offsets[from]`, for each item `i` of `out`, and tests no offset. Requires that
 /// the numbers are offsets.
+///
+/// Returns `ARROW2_LENGTH` exactly where `out` has no item, else `ARROW2_RANGE` exactly where `from` plus the number of
+/// items of `out` is above that of `offsets`. Writes nothing but with `ARROW2_OK`.
 pub(crate) fn rebase_unchecked<O: Offset>(offsets: &[O], from: usize, out: &mut [O]) -> u32
     requires valid { AreOffsets (map O.value offsets.now) }
     ensures { RebasesTo result (map O.value offsets.now) from (length out.old)
