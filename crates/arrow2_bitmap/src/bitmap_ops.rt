@@ -164,6 +164,8 @@ pub fn binary<F: Fn(u64, u64) -> u64>(lhs: &Bitmap, rhs: &Bitmap, op: F) -> Resu
 /// only the two lowest bits of `t`. Goes by 32 bytes at a time where the items begin at a byte boundary, else by words
 /// of 64 bits.
 ///
+/// The new bitmap is stored in canonical bytes, from bit 0 on.
+///
 /// arrow2 has no such call.
 ///
 /// # Errors
@@ -189,6 +191,8 @@ pub fn unary_table(lhs: &Bitmap, t: u8) -> Result<Bitmap>
 /// Returns, item by item, the output of the truth table `t`: bit `a + 2 * b` of `t`, where `a` and `b` are the items of
 /// `lhs` and `rhs` as 0 or 1. Reads only the four lowest bits of `t`. Requires that both have equal lengths. Goes by 32
 /// bytes at a time where both begin at a byte boundary, else by words of 64 bits.
+///
+/// The new bitmap is stored in canonical bytes, from bit 0 on.
 ///
 /// arrow2 has no such call.
 ///
@@ -217,6 +221,8 @@ pub fn binary_table(lhs: &Bitmap, rhs: &Bitmap, t: u8) -> Result<Bitmap>
 
 /// Returns, item by item, whether both are true. Requires that both have equal lengths. arrow2 returns no `Result`.
 ///
+/// The new bitmap is stored in canonical bytes, from bit 0 on.
+///
 /// # Errors
 ///
 /// `OutOfMemory` alone.
@@ -239,6 +245,8 @@ pub fn and(lhs: &Bitmap, rhs: &Bitmap) -> Result<Bitmap>
 /// Returns, item by item, whether one or both are true. Requires that both have equal lengths. arrow2 returns no
 /// `Result`.
 ///
+/// The new bitmap is stored in canonical bytes, from bit 0 on.
+///
 /// # Errors
 ///
 /// `OutOfMemory` alone.
@@ -260,6 +268,8 @@ pub fn or(lhs: &Bitmap, rhs: &Bitmap) -> Result<Bitmap>
 
 /// Returns, item by item, whether exactly one is true. Requires that both have equal lengths. arrow2 returns no
 /// `Result`.
+///
+/// The new bitmap is stored in canonical bytes, from bit 0 on.
 ///
 /// # Errors
 ///

@@ -217,6 +217,8 @@ impl Bitmap {
     ///
     /// Stands for arrow2's `FromIterator`, which allocates by the size hint. Here the size hint is not read.
     ///
+    /// The bitmap is stored in canonical bytes, from bit 0 on.
+    ///
     /// # Errors
     ///
     /// `Overflow` or `OutOfMemory`. `Overflow` comes only if the contract of the iterator allows more than `usize::MAX`
