@@ -16,8 +16,8 @@ use arrow2_kernels::{NoList, OneList};
 use std::ops::{BitAnd, BitAndAssign, BitOr, BitOrAssign, BitXor, BitXorAssign, Not};
 
 /// Replaces each word of type `T` of the bitmap by the result of `op` for it. The last word is padded with false, and
-/// bits that `op` sets in the padding are cleared. Does not allocate. Requires that the `requires` of `op` holds for
-/// any word, not only for those of the bitmap.
+/// bits that `op` sets in the padding are cleared. The length and the capacity stay. Does not allocate. Requires that
+/// the `requires` of `op` holds for any word, not only for those of the bitmap.
 ///
 /// For any `op` the clauses state that the items are the bits of result words, and that each result word is one that
 /// the contract of `op` allows for the input word at its index. If the contract of `op` determines each result word
@@ -26,8 +26,8 @@ use std::ops::{BitAnd, BitAndAssign, BitOr, BitOrAssign, BitXor, BitXorAssign, N
 /// Differs from arrow2: the padding bits of the words count as false, and are false afterwards.
 pub fn unary_assign<T: BitChunk, F: Fn(T) -> T>(bitmap: &mut MutableBitmap, op: F)
     requires callable { F.IsAlwaysCallable op }
-    // If the results of `op` are those of a mathematical function `f` on words: the items are the bits of the results
-    // of `f` for the words of the list, the lowest `T.WIDTH` of each, in order, cut to the length of the list.
+    // If the results of `op` are those of a mathematical function `f` on words: the items are the `T.WIDTH` lowest bits
+    // of the results of `f` for the words of the list, one result after another, cut to the length of the list.
     ensures kernel { (f : ℕ → ℕ) → ComputesUnary T.WIDTH T.number (F.post op) f →
         bitmap.new.items ≡ unary_kernel T.WIDTH f bitmap.old.items }
     // For every truth table `t` by which `op` computes each bit: the items are the outputs of `t`.
@@ -44,8 +44,9 @@ pub fn unary_assign<T: BitChunk, F: Fn(T) -> T>(bitmap: &mut MutableBitmap, op: 
 }
 
 /// Replaces each word of type `T` of `lhs` by the result of `op` for it and the word of `rhs` at the same index. The
-/// last words are padded with false, and bits that `op` sets in the padding are cleared. Does not allocate. Requires
-/// equal lengths, and that the `requires` of `op` holds for any two words, not only for those of the bitmaps.
+/// last words are padded with false, and bits that `op` sets in the padding are cleared. The length and the capacity
+/// stay. Does not allocate. Requires equal lengths, and that the `requires` of `op` holds for any two words, not only
+/// for those of the bitmaps.
 ///
 /// For any `op` the clauses state that the items are the bits of result words, and that each result word is one that
 /// the contract of `op` allows for the input words at its index. If the contract of `op` determines each result word
@@ -55,8 +56,8 @@ pub fn unary_assign<T: BitChunk, F: Fn(T) -> T>(bitmap: &mut MutableBitmap, op: 
 pub fn binary_assign<T: BitChunk, F: Fn(T, T) -> T>(lhs: &mut MutableBitmap, rhs: &Bitmap, op: F)
     requires callable { F.IsAlwaysCallable op }
     requires same_length { length lhs.old.items ≡ length (items_of rhs.now) }
-    // If the results of `op` are those of a mathematical function `f` on words: the items are the bits of the results
-    // of `f` for the words of both lists at each index, the lowest `T.WIDTH` of each, in order, cut to their length.
+    // If the results of `op` are those of a mathematical function `f` on words: the items are the `T.WIDTH` lowest bits
+    // of the results of `f` for the words of both lists at each index, one result after another, cut to their length.
     ensures kernel { (f : ℕ → ℕ → ℕ) → ComputesBinary T.WIDTH T.number (F.post op) f →
         lhs.new.items ≡ binary_kernel T.WIDTH f lhs.old.items (items_of rhs.now) }
     // For every truth table `t` by which `op` computes each bit: the items are the outputs of `t`.
@@ -87,8 +88,8 @@ fn assign_chunks<T: BitChunk, I: BitChunkIterExact<T> + Drop, F: Fn(T, T) -> T>(
 )
     requires callable { F.IsAlwaysCallable op }
     requires same_length { length lhs.old.items ≡ length (I.cursor chunks).items }
-    // If the results of `op` are those of a mathematical function `f` on words: the items are the bits of the results
-    // of `f` for the words of both lists at each index, the lowest `T.WIDTH` of each, in order, cut to their length.
+    // If the results of `op` are those of a mathematical function `f` on words: the items are the `T.WIDTH` lowest bits
+    // of the results of `f` for the words of both lists at each index, one result after another, cut to their length.
     ensures kernel { (f : ℕ → ℕ → ℕ) → ComputesBinary T.WIDTH T.number (F.post op) f →
         lhs.new.items ≡ binary_kernel T.WIDTH f lhs.old.items (I.cursor chunks).items }
     // For every truth table `t` by which `op` computes each bit: the items are the outputs of `t`.
@@ -105,7 +106,7 @@ fn assign_chunks<T: BitChunk, I: BitChunkIterExact<T> + Drop, F: Fn(T, T) -> T>(
 }
 
 /// Replaces each item by the output of the truth table `t`: bit `a` of `t`, where `a` is the item as 0 or 1. Reads only
-/// the two lowest bits of `t`. Does not allocate.
+/// the two lowest bits of `t`. The capacity stays. Does not allocate.
 ///
 /// The type parameter `W` is not used: the call goes by 32 bytes at a time, whatever `W` is. It is there because each
 /// public function of this module has a word type.
@@ -119,8 +120,8 @@ pub fn unary_assign_table<W: BitChunk>(bitmap: &mut MutableBitmap, t: u8)
 }
 
 /// Replaces each item by the output of the truth table `t`: bit `a + 2 * b` of `t`, where `a` and `b` are the items of
-/// `lhs` and `rhs` as 0 or 1. Reads only the four lowest bits of `t`. Requires that both have equal lengths. Does not
-/// allocate.
+/// `lhs` and `rhs` as 0 or 1. Reads only the four lowest bits of `t`. The capacity stays. Requires that both have equal
+/// lengths. Does not allocate.
 ///
 /// Goes by 32 bytes at a time where `rhs` begins at a byte boundary, else by words of `W`. The result does not depend
 /// on `W`.
@@ -140,8 +141,8 @@ pub fn binary_assign_table<W: BitChunk>(lhs: &mut MutableBitmap, rhs: &Bitmap, t
     }
 }
 
-/// Replaces each item by its AND with the item of `rhs` at the same index. Does not allocate. Requires that both
-/// bitmaps have equal lengths. arrow2 implements the operator on `&mut MutableBitmap`.
+/// Replaces each item by its AND with the item of `rhs` at the same index. The capacity stays. Does not allocate.
+/// Requires that both bitmaps have equal lengths. arrow2 implements the operator on `&mut MutableBitmap`.
 impl<'a> BitAndAssign<&'a Bitmap> for MutableBitmap {
     ghost can_bitand_assign = { λ m b. length m.items ≡ length (items_of b.now) };
 
@@ -154,7 +155,8 @@ impl<'a> BitAndAssign<&'a Bitmap> for MutableBitmap {
     }
 }
 
-/// Returns, item by item, whether both are true. Does not allocate. Requires that both have equal lengths.
+/// Returns, item by item, whether both are true. The capacity is that of `self`. Does not allocate. Requires that both
+/// have equal lengths.
 impl<'a> BitAnd<&'a Bitmap> for MutableBitmap {
     type Output = MutableBitmap;
 
@@ -171,8 +173,8 @@ impl<'a> BitAnd<&'a Bitmap> for MutableBitmap {
     }
 }
 
-/// Replaces each item by its OR with the item of `rhs` at the same index. Does not allocate. Requires that both bitmaps
-/// have equal lengths. arrow2 implements the operator on `&mut MutableBitmap`.
+/// Replaces each item by its OR with the item of `rhs` at the same index. The capacity stays. Does not allocate.
+/// Requires that both bitmaps have equal lengths. arrow2 implements the operator on `&mut MutableBitmap`.
 impl<'a> BitOrAssign<&'a Bitmap> for MutableBitmap {
     ghost can_bitor_assign = { λ m b. length m.items ≡ length (items_of b.now) };
 
@@ -185,7 +187,8 @@ impl<'a> BitOrAssign<&'a Bitmap> for MutableBitmap {
     }
 }
 
-/// Returns, item by item, whether one or both are true. Does not allocate. Requires that both have equal lengths.
+/// Returns, item by item, whether one or both are true. The capacity is that of `self`. Does not allocate. Requires
+/// that both have equal lengths.
 impl<'a> BitOr<&'a Bitmap> for MutableBitmap {
     type Output = MutableBitmap;
 
@@ -202,8 +205,8 @@ impl<'a> BitOr<&'a Bitmap> for MutableBitmap {
     }
 }
 
-/// Replaces each item by its XOR with the item of `rhs` at the same index. Does not allocate. Requires that both
-/// bitmaps have equal lengths. arrow2 implements the operator on `&mut MutableBitmap`.
+/// Replaces each item by its XOR with the item of `rhs` at the same index. The capacity stays. Does not allocate.
+/// Requires that both bitmaps have equal lengths. arrow2 implements the operator on `&mut MutableBitmap`.
 impl<'a> BitXorAssign<&'a Bitmap> for MutableBitmap {
     ghost can_bitxor_assign = { λ m b. length m.items ≡ length (items_of b.now) };
 
@@ -216,7 +219,8 @@ impl<'a> BitXorAssign<&'a Bitmap> for MutableBitmap {
     }
 }
 
-/// Returns, item by item, whether exactly one is true. Does not allocate. Requires that both have equal lengths.
+/// Returns, item by item, whether exactly one is true. The capacity is that of `self`. Does not allocate. Requires that
+/// both have equal lengths.
 impl<'a> BitXor<&'a Bitmap> for MutableBitmap {
     type Output = MutableBitmap;
 
@@ -233,7 +237,7 @@ impl<'a> BitXor<&'a Bitmap> for MutableBitmap {
     }
 }
 
-/// Returns each item inverted. Does not allocate.
+/// Returns each item inverted. The capacity is that of `self`. Does not allocate.
 impl Not for MutableBitmap {
     type Output = MutableBitmap;
 

@@ -58,8 +58,8 @@ pub fn from_rows<S: WordRows<u64>, F: Fn(S::Row) -> u64>(
     ensures table { (t : ℕ) (lists : List (List Bool)) →
         IsBitwiseOnRows 64 S.words (λ x. x) (F.post op) t → AreRowsOf 64 lists (S.row_at rows) len →
         IfOk result (λ b. items_of b ≡ each t lists) }
-    // For any `op`: the word at each index is one that `op` may return for some row with the words of the row at this
-    // index.
+    // For any `op`: the items are the 64 lowest bits of words, cut to `len`. The word at each index is one that `op`
+    // may return for a row that has the same words as the row at this index.
     ensures results { IfOk result (λ b. AreJoinedResults 64 len
         (λ j. MayReturnRow 64 S.words (λ x. x) (F.post op) (S.row_at rows j)) (items_of b)) }
     // The new bitmap is stored in canonical bytes, and the only error is `OutOfMemory`.
@@ -88,8 +88,8 @@ pub fn from_rows<S: WordRows<u64>, F: Fn(S::Row) -> u64>(
 /// `OutOfMemory` alone.
 pub fn unary<F: Fn(u64) -> u64>(lhs: &Bitmap, op: F) -> Result<Bitmap>
     requires callable { F.IsAlwaysCallable op }
-    // If the results of `op` are those of a mathematical function `f` on words: the items are the bits of the results
-    // of `f` for the words of the list, the lowest 64 of each, in order, cut to the length of the list.
+    // If the results of `op` are those of a mathematical function `f` on words: the items are the 64 lowest bits of the
+    // results of `f` for the words of the list, one result after another, cut to the length of the list.
     ensures kernel { (f : ℕ → ℕ) → ComputesUnary 64 (λ x. x) (F.post op) f →
         IfOk result (λ b. items_of b ≡ unary_kernel 64 f (items_of lhs.now)) }
     // For every truth table `t` by which `op` computes each bit: the items are the outputs of `t`.
@@ -131,8 +131,8 @@ pub fn unary<F: Fn(u64) -> u64>(lhs: &Bitmap, op: F) -> Result<Bitmap>
 pub fn binary<F: Fn(u64, u64) -> u64>(lhs: &Bitmap, rhs: &Bitmap, op: F) -> Result<Bitmap>
     requires callable { F.IsAlwaysCallable op }
     requires same_length { length (items_of lhs.now) ≡ length (items_of rhs.now) }
-    // If the results of `op` are those of a mathematical function `f` on words: the items are the bits of the results
-    // of `f` for the words of both lists at each index, the lowest 64 of each, in order, cut to their length.
+    // If the results of `op` are those of a mathematical function `f` on words: the items are the 64 lowest bits of the
+    // results of `f` for the words of both lists at each index, one result after another, cut to their length.
     ensures kernel { (f : ℕ → ℕ → ℕ) → ComputesBinary 64 (λ x. x) (F.post op) f →
         IfOk result (λ b. items_of b ≡ binary_kernel 64 f (items_of lhs.now) (items_of rhs.now)) }
     // For every truth table `t` by which `op` computes each bit: the items are the outputs of `t`.
@@ -336,7 +336,7 @@ impl<'a, 'b> BitXor<&'b Bitmap> for &'a Bitmap {
     }
 }
 
-/// Returns each item inverted. arrow2 returns no `Result`.
+/// Returns each item inverted. The new bitmap is stored in canonical bytes, from bit 0 on. arrow2 returns no `Result`.
 ///
 /// # Errors
 ///

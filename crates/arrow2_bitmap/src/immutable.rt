@@ -78,7 +78,7 @@ impl Model for Bitmap {
 
 #[tactic(auto, using(arrow2_model::proofs::Cursors::parts))]
 impl Bitmap {
-    /// Returns an empty bitmap.
+    /// Returns an empty bitmap: no bytes, bit offset 0.
     ///
     /// # Errors
     ///
@@ -179,7 +179,7 @@ impl Bitmap {
         Bitmap::from_u8_vec(Vec::from_slice(alloc, bytes)?, len)
     }
 
-    /// Returns a bitmap of `len` items, all false.
+    /// Returns a bitmap of `len` items, all false, stored in canonical bytes, from bit 0 on.
     ///
     /// # Errors
     ///
@@ -197,7 +197,7 @@ impl Bitmap {
         Bitmap::from_counted(zeros, len, len)
     }
 
-    /// Returns the bitmap of the items.
+    /// Returns the bitmap of the items, stored in canonical bytes, from bit 0 on.
     ///
     /// Stands for arrow2's `From` of a slice of booleans.
     ///
@@ -648,13 +648,17 @@ impl PartialEq for Bitmap {
     }
 }
 
+/// Equality is reflexive too.
 impl Eq for Bitmap {
     // The proof that `eq` is reflexive, symmetric and transitive.
     ghost laws = { on_equiv items_of (lists_equiv bool_eq_equiv) };
 }
 
-/// Returns a bitmap with the same bytes, bit offset and length. Shares the bytes. Does not allocate: in the code it
-/// fails only if the reference count would overflow. No clause states that.
+/// Returns a bitmap with the same bytes, bit offset and length. Shares the bytes. Does not allocate.
+///
+/// # Errors
+///
+/// `AllocError`. The code returns it only if the reference count would overflow; no clause states that.
 impl Clone for Bitmap {
     ghost is_clone = { λ a b. b ≡ a };
 

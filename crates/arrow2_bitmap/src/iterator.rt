@@ -48,6 +48,7 @@ impl IntoIter {
     }
 }
 
+/// Yields the items still to come, from the front.
 #[tactic(auto, using(crate::proofs::Cursor::walking))]
 impl Iterator for IntoIter {
     type Item = bool;
@@ -77,6 +78,7 @@ impl Iterator for IntoIter {
     }
 }
 
+/// Yields the items still to come, from the back.
 #[tactic(auto, using(crate::proofs::Cursor::walking))]
 impl DoubleEndedIterator for IntoIter {
     ghost next_back_gives = { YieldsLast (λ s. s) };
@@ -90,8 +92,11 @@ impl DoubleEndedIterator for IntoIter {
     }
 }
 
-/// Returns an iterator with the same items still to come, over the same bytes. Does not allocate: in the code it fails
-/// only if the reference count would overflow. No clause states that.
+/// Returns an iterator with the same items still to come, over the same bytes. Does not allocate.
+///
+/// # Errors
+///
+/// `AllocError`. The code returns it only if the reference count would overflow; no clause states that.
 impl Clone for IntoIter {
     ghost is_clone = { λ i copy. copy ≡ i };
 

@@ -72,9 +72,9 @@ impl MutableBitmap {
         }
     }
 
-    /// Returns a bitmap of the first `len` bits of `bytes`, over the same vector. Cuts spare bytes off, clears padding
-    /// bits and keeps the capacity. Does not allocate where the bytes have at least `len` bits. In arrow2 spare bytes
-    /// stay, and `push` may write into the wrong byte.
+    /// Returns a bitmap of the first `len` bits of `bytes`, over the same vector. Cuts spare bytes off and clears
+    /// padding bits. The capacity is eight times that of the vector, at most `usize::MAX`. Does not allocate where the
+    /// bytes have at least `len` bits. In arrow2 spare bytes stay, and `push` may write into the wrong byte.
     ///
     /// # Errors
     ///
@@ -92,9 +92,10 @@ impl MutableBitmap {
         Ok(MutableBitmap::from_vec(bytes, len))
     }
 
-    /// Returns a bitmap of the first `len` bits of `bytes`, over the same vector. Cuts spare bytes off, clears padding
-    /// bits and keeps the capacity. Requires `len` to be at most eight times the number of bytes. Does not allocate. In
-    /// arrow2 spare bytes stay, and `push` may write into the wrong byte.
+    /// Returns a bitmap of the first `len` bits of `bytes`, over the same vector. Cuts spare bytes off and clears
+    /// padding bits. The capacity is eight times that of the vector, at most `usize::MAX`. Requires `len` to be at most
+    /// eight times the number of bytes. Does not allocate. In arrow2 spare bytes stay, and `push` may write into the
+    /// wrong byte.
     pub fn from_vec(bytes: Vec<u8>, len: usize) -> MutableBitmap
         requires inside { len ≤ 8 * vec_len bytes }
         ensures items { result.items ≡ take len (bits bytes.items) }
@@ -195,8 +196,8 @@ impl MutableBitmap {
     ///
     /// # Errors
     ///
-    /// `Overflow` exactly where the length is `usize::MAX`. Else `OutOfMemory` alone, and never below the capacity.
-    /// After either error, the bitmap holds the items that it held. The capacity never falls.
+    /// `Overflow` exactly where the length is `usize::MAX`. Else `OutOfMemory` alone, and only where the new length
+    /// passes the capacity. After either error, the bitmap holds the items that it held. The capacity never falls.
     pub fn push(&mut self, value: bool) -> Result<()>
         ensures { Appends error_of result self.old self.new (value ∷ []) }
     {
@@ -209,8 +210,9 @@ impl MutableBitmap {
     ///
     /// # Errors
     ///
-    /// `Overflow` exactly where the new length would pass `usize::MAX`. Else `OutOfMemory` alone, and never within the
-    /// capacity. After either error, the bitmap holds the items that it held. The capacity never falls.
+    /// `Overflow` exactly where the new length would pass `usize::MAX`. Else `OutOfMemory` alone, and only where the
+    /// new length passes the capacity. After either error, the bitmap holds the items that it held. The capacity never
+    /// falls.
     pub fn extend_constant(&mut self, additional: usize, value: bool) -> Result<()>
         ensures { Appends error_of result self.old self.new (replicate additional value) }
     {
@@ -224,8 +226,9 @@ impl MutableBitmap {
     ///
     /// # Errors
     ///
-    /// `Overflow` exactly where the new length would pass `usize::MAX`. Else `OutOfMemory` alone, and never within the
-    /// capacity. After either error, the bitmap holds the items that it held. The capacity never falls.
+    /// `Overflow` exactly where the new length would pass `usize::MAX`. Else `OutOfMemory` alone, and only where the
+    /// new length passes the capacity. After either error, the bitmap holds the items that it held. The capacity never
+    /// falls.
     pub fn extend_from_slice(&mut self, slice: &[u8], offset: usize, len: usize) -> Result<()>
         requires inside { offset + len ≤ 8 * length slice.now }
         ensures { Appends error_of result self.old self.new (part (bits slice.now) offset len) }
@@ -239,8 +242,9 @@ impl MutableBitmap {
     ///
     /// # Errors
     ///
-    /// `Overflow` exactly where the new length would pass `usize::MAX`. Else `OutOfMemory` alone, and never within the
-    /// capacity. After either error, the bitmap holds the items that it held. The capacity never falls.
+    /// `Overflow` exactly where the new length would pass `usize::MAX`. Else `OutOfMemory` alone, and only where the
+    /// new length passes the capacity. After either error, the bitmap holds the items that it held. The capacity never
+    /// falls.
     pub fn extend_from_bools(&mut self, items: &[bool]) -> Result<()>
         ensures { Appends error_of result self.old self.new items.now }
     {
@@ -253,8 +257,9 @@ impl MutableBitmap {
     ///
     /// # Errors
     ///
-    /// `Overflow` exactly where the new length would pass `usize::MAX`. Else `OutOfMemory` alone, and never within the
-    /// capacity. After either error, the bitmap holds the items that it held. The capacity never falls.
+    /// `Overflow` exactly where the new length would pass `usize::MAX`. Else `OutOfMemory` alone, and only where the
+    /// new length passes the capacity. After either error, the bitmap holds the items that it held. The capacity never
+    /// falls.
     pub fn extend_from_bitmap(&mut self, bitmap: &Bitmap) -> Result<()>
         ensures { Appends error_of result self.old self.new (items_of bitmap.now) }
     {
@@ -268,7 +273,8 @@ impl MutableBitmap {
     /// # Errors
     ///
     /// `Overflow` exactly where the length plus `additional` would pass `usize::MAX`. Else `OutOfMemory` alone, and
-    /// never within the capacity. After either error, the bitmap holds the items that it held.
+    /// only where the length plus `additional` passes the capacity. After either error, the bitmap holds the items that
+    /// it held.
     pub fn reserve(&mut self, additional: usize) -> Result<()>
         // The items stay; after `Ok`, `additional` more fit. `within_capacity` holds for every `MutableBitmap`: the
         // length is at most the capacity.
@@ -300,7 +306,8 @@ impl MutableBitmap {
         Ok(())
     }
 
-    /// Returns the items as a validity bitmap over the same bytes, or `None` where no item is false.
+    /// Returns the items as a validity bitmap over the same bytes, which are canonical, or `None` where no item is
+    /// false.
     ///
     /// Stands for arrow2's `From<MutableBitmap>` for `Option<Bitmap>`.
     ///
@@ -343,8 +350,8 @@ impl MutableBitmap {
         get_bit(self.as_slice(), index)
     }
 
-    /// Sets item `index` to `value`. No other item changes. Requires that `index` is below the length. arrow2 also
-    /// accepts an index past the length, if its bit is inside the bytes.
+    /// Sets item `index` to `value`. No other item changes. The capacity stays. Requires that `index` is below the
+    /// length. arrow2 also accepts an index past the length, if its bit is inside the bytes.
     pub fn set(&mut self, index: usize, value: bool)
         requires below { index < length self.old.items }
         ensures items { self.new.items ≡ slice_set self.old.items index value }
@@ -482,6 +489,7 @@ impl PartialEq for MutableBitmap {
     }
 }
 
+/// Equality is reflexive too.
 impl Eq for MutableBitmap {
     // The proof that `eq` is reflexive, symmetric and transitive.
     ghost laws = { on_equiv (λ m. m.items) (lists_equiv bool_eq_equiv) };

@@ -50,9 +50,9 @@ impl<'a> Side<'a> {
 
 /// Writes AND, item by item: false where either is false, else null where either is null, else true.
 ///
-/// Returns `ARROW2_RANGE` exactly where an offset plus `length` is above eight times the number of its bytes, also for
-/// a `length` of 0, else `ARROW2_LENGTH` exactly where `values` or `validity` does not have exactly the bytes that hold
-/// the items.
+/// Returns `ARROW2_RANGE` exactly where `length` bits of the values or of the validity of a side, each from its offset
+/// on, are not inside their bytes, also for a `length` of 0; else `ARROW2_LENGTH` exactly where `values` or `validity`
+/// does not have exactly the bytes that hold the items.
 #[unsafe(no_mangle)]
 pub extern "C" fn arrow2_and_kleene(
     lhs: &[u8],
@@ -112,9 +112,9 @@ pub extern "C" fn arrow2_or_kleene(
 /// Writes AND, item by item, as `arrow2_and_kleene` does. If `lhs_all_valid` is true, no item of the left side is null,
 /// and `lhs_validity` and its offset are ignored. The same holds for the right side.
 ///
-/// Returns `ARROW2_RANGE` exactly where an offset that is not ignored, plus `length`, is above eight times the number
-/// of its bytes, also for a `length` of 0, else `ARROW2_LENGTH` exactly where the output `values` or `validity` does
-/// not have exactly the bytes that hold the items.
+/// Returns `ARROW2_RANGE` exactly where `length` bits of the values of a side, or of a validity that is not ignored,
+/// each from its offset on, are not inside their bytes, also for a `length` of 0; else `ARROW2_LENGTH` exactly where
+/// the output `values` or `validity` does not have exactly the bytes that hold the items.
 #[unsafe(no_mangle)]
 pub extern "C" fn arrow2_and_kleene_optional(
     lhs: &[u8],
@@ -240,11 +240,11 @@ fn is_inside(side: Side<'_>, length: usize) -> bool
 /// Writes which results are not null: the outputs of table `KNOWN` for value and validity of the left side, then of the
 /// right side. A missing validity counts as true. Padding bits become 0.
 ///
-/// Requires two things of the tables. Where one side is valid, the output of `PAIRED` is that of `KNOWN`: the inputs of
-/// `PAIRED` are value and validity of the other side, be it the left or the right one, then the value of the valid
-/// side. Where both sides are valid, the output of `KNOWN` is true. Also requires that `out` has exactly the bytes that
-/// `length` bits need, and that `length` bits of the values of each side, and of its validity if it has one, are inside
-/// their bytes.
+/// Requires two things of the tables. Where the item of one side is not null, the output of `PAIRED` is that of
+/// `KNOWN`: the inputs of `PAIRED` are value and validity of the other side, be it the left or the right one, then the
+/// value of the side that is not null. Where neither item is null, the output of `KNOWN` is true. Also requires that
+/// `out` has exactly the bytes that `length` bits need, and that `length` bits of the values of each side, and of its
+/// validity if it has one, are inside their bytes.
 ///
 /// In the code, `KNOWN` is used where both sides have a validity, `PAIRED` where only one side has one, and a table
 /// that is always true where neither has one.

@@ -13,8 +13,8 @@ use arrow2_walks::{BitCursor, find_bit};
 /// are full or no run is left. Writes to `count` how many runs it wrote, and to `at` where the next call goes on. If
 /// `count` is below the length of the slices, no run is left, and `at` is `length`. If the slices are full, runs may be
 /// left. The exact value of `at` is then not specified: it is at least the end of the last run written, and at most the
-/// start of the next run, or at most `length` if there is none. With slices of length 0, `count` is always 0, runs may
-/// be left, and `at` may stay as it was. What the slices hold from `count` on is not specified.
+/// start of the next run, or at most `length` if there is none. `at` never falls. With slices of length 0, `count` is
+/// always 0, runs may be left, and `at` may stay as it was. What the slices hold from `count` on is not specified.
 ///
 /// Returns `ARROW2_RANGE` exactly where the bits are not inside, or `at` is above `length`; else `ARROW2_LENGTH`
 /// exactly where `starts` and `lengths` differ in length.

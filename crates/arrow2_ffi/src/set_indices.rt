@@ -16,8 +16,8 @@ use arrow2_chunk::{BitChunk, BitChunkOnes};
 /// `indices` is full or no set bit is left. Writes to `count` how many indices it wrote, and to `at` where the next
 /// call goes on. If `count` is below the length of `indices`, no set bit is left, and `at` is `length`. If `indices` is
 /// full, set bits may be left. The exact value of `at` is then not specified: it is above the last index written, and
-/// at most the index of the next set bit, or at most `length` if there is none. With `indices` of length 0, `count` is
-/// always 0, and set bits may be left. What `indices` holds from `count` on is not specified.
+/// at most the index of the next set bit, or at most `length` if there is none. `at` never falls. With `indices` of
+/// length 0, `count` is always 0, and set bits may be left. What `indices` holds from `count` on is not specified.
 ///
 /// Returns `ARROW2_RANGE` exactly where the bits are not inside, or `at` is above `length`.
 #[unsafe(no_mangle)]

@@ -116,7 +116,7 @@ fn with_spare_capacity<O>(mut offsets: Vec<O>) -> (Vec<O>, Result<(), AllocError
     (offsets, outcome)
 }
 
-/// Reserves capacity for `additional_lengths` more lengths: a vector of n offsets has n - 1 lengths. The contract
+/// Reserves capacity for `additional_lengths(n - 1)` more lengths, where the vector has n offsets. The contract
 /// states only that the items stay, that the capacity never falls, and that there is spare capacity after `Ok`.
 #[cold]
 #[inline(never)]

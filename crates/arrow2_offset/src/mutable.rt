@@ -93,7 +93,7 @@ impl<O: Offset> Offsets<O> {
         Ok(offsets)
     }
 
-    /// Returns the single offset 0, with capacity for `capacity` lengths.
+    /// Returns the single offset 0, with capacity for at least `capacity` lengths.
     ///
     /// # Errors
     ///
@@ -213,7 +213,8 @@ impl<O: Offset> Offsets<O> {
     /// # Errors
     ///
     /// `Overflow` exactly where the last offset would pass `O::MAX`. Otherwise `OutOfMemory` is the only error, also
-    /// where a `usize` cannot count the offsets. After either error, the offsets are as they were.
+    /// where a `usize` cannot count the offsets, and it comes only where there is no spare capacity. After either
+    /// error, the offsets are as they were. The capacity never falls.
     pub fn try_push(&mut self, len: O) -> Result<()>
         requires { pos 0 ≤ℤ O.value len }
         ensures { GrowsUpTo error_of result self.old self.new
@@ -228,7 +229,8 @@ impl<O: Offset> Offsets<O> {
     /// # Errors
     ///
     /// `Overflow` exactly where the last offset would pass `O::MAX`. Otherwise `OutOfMemory` is the only error, also
-    /// where a `usize` cannot count the offsets. After either error, the offsets are as they were.
+    /// where a `usize` cannot count the offsets, and it comes only where there is no spare capacity. After either
+    /// error, the offsets are as they were. The capacity never falls.
     pub fn try_push_usize(&mut self, len: usize) -> Result<()>
         ensures { GrowsUpTo error_of result self.old self.new (len ∷ []) O.MAX }
     {
@@ -246,7 +248,7 @@ impl<O: Offset> Offsets<O> {
     ///
     /// `Overflow` or `OutOfMemory`. `Overflow` is possible only if the iterator may yield lengths whose sum, added to
     /// the last offset, passes `O::MAX`; `OutOfMemory` only if it may yield more lengths than the spare capacity. After
-    /// either error, the offsets are as they were.
+    /// either error, the offsets are as they were. The capacity never falls.
     pub fn try_extend_from_lengths<I: Iterator<Item = usize> + Drop>(
         &mut self,
         lengths: I,
@@ -265,8 +267,9 @@ impl<O: Offset> Offsets<O> {
     ///
     /// # Errors
     ///
-    /// `Overflow` exactly where the last offset plus the sum of the lengths exceeds `O::MAX`, else `OutOfMemory` alone.
-    /// After either error, the offsets are as they were.
+    /// `Overflow` exactly where the last offset plus the sum of the lengths exceeds `O::MAX`, else `OutOfMemory` alone,
+    /// and only where the new number of lengths passes the capacity. After either error, the offsets are as they were.
+    /// The capacity never falls.
     pub fn try_extend_from_self(&mut self, other: &Self) -> Result<()>
         ensures { GrowsUpTo error_of result self.old self.new other.now.lengths O.MAX }
     {
@@ -282,7 +285,8 @@ impl<O: Offset> Offsets<O> {
     /// # Errors
     ///
     /// `Overflow` exactly where the last offset plus the sum of these lengths exceeds `O::MAX`, else `OutOfMemory`
-    /// alone. After either error, the offsets are as they were.
+    /// alone, and only where the new number of lengths passes the capacity. After either error, the offsets are as they
+    /// were. The capacity never falls.
     pub fn try_extend_from_slice(
         &mut self,
         other: &OffsetsBuffer<O>,
@@ -307,9 +311,9 @@ impl<O: Offset> Offsets<O> {
     ///
     /// # Errors
     ///
-    /// `Overflow` exactly where the number of offsets would pass `usize::MAX`, else `OutOfMemory` alone. After either
-    /// error, the offsets are as they were. In arrow2 the number of offsets wraps, and the list is cut to the wrapped
-    /// number of offsets.
+    /// `Overflow` exactly where the number of offsets would pass `usize::MAX`, else `OutOfMemory` alone, and only where
+    /// the new number of lengths passes the capacity. After either error, the offsets are as they were. The capacity
+    /// never falls. In arrow2 the number of offsets wraps, and the list is cut to the wrapped number of offsets.
     pub fn extend_constant(&mut self, additional: usize) -> Result<()>
         // `Overflow` exactly where the number of offsets would be above 2 ^ 64 - 1.
         ensures { Grows error_of result self.old self.new (replicate additional 0)
@@ -495,7 +499,7 @@ impl<O: Offset> Offsets<O> {
     }
 }
 
-/// Makes offsets of the vector, without a copy.
+/// Makes offsets of the vector, without a copy. The capacity counts lengths, so it is one less than that of the vector.
 ///
 /// # Errors
 ///

@@ -75,8 +75,8 @@ pub fn write_sums<O: Offset>(start: usize, lengths: &[usize], offsets: &mut [O])
 }
 
 /// Sets `out[i]` to `offsets[from + i] - offsets[from]`. Requires that the numbers are offsets, that `out` is not
-/// empty, and that `from + out.len()` is at most `offsets.len()`. For the proof, `valid` adds that no offset is above
-/// `O::MAX`: no number of the type is.
+/// empty, and that `from + out.len()` is at most `offsets.len()`. `valid` also states that no offset is above `O::MAX`,
+/// which holds for every number of the type.
 pub fn write_part<O: Offset>(offsets: &[O], from: usize, out: &mut [O])
     requires valid { AreOffsetsUpTo O.MAX (map O.value offsets.now) }
     requires some { 0 < length out.old }
