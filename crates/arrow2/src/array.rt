@@ -8,6 +8,7 @@ pub use arrow2_primitive::{
     MutablePrimitiveArray, NonNullValuesIter, PrimitiveArray, PrimitiveIter,
 };
 pub use arrow2_text::{
-    BinaryArray, BinaryIter, MutableBinaryArray, MutableUtf8Array, Utf8Array, Utf8Iter,
+    ArrayAccessor, ArrayIter, ArrayNonNullValuesIter, ArrayValuesIter, BinaryArray, BinaryIter,
+    BinaryValueIter, MutableBinaryArray, MutableUtf8Array, Utf8Array, Utf8Iter, Utf8ValuesIter,
 };
 pub use arrow2_validity::{Validity, check_same_length};

@@ -196,10 +196,18 @@ enum Growth {
     Push,
     /// By a null.
     PushNull,
+    /// By two items that are not null.
+    ExtendFromSlice,
+    /// By an item and a null.
+    ExtendFromOptions,
+    /// By one item many times.
+    ExtendConstant,
     /// By another array.
     ExtendFromArray,
     /// By capacity alone.
     Reserve,
+    /// By the release of capacity.
+    ShrinkToFit,
     /// By the removal of its last item.
     Pop,
 }
@@ -225,11 +233,24 @@ impl Grows<Utf8Array<i32>> for MutableUtf8Array<i32> {
         match growth {
             Growth::Push => ("MutableUtf8Array::push", self.push(Some(TEXT))),
             Growth::PushNull => ("MutableUtf8Array::push_null", self.push_null()),
+            Growth::ExtendFromSlice => (
+                "MutableUtf8Array::extend_from_slice",
+                self.extend_from_slice(&[TEXT, TEXT]),
+            ),
+            Growth::ExtendFromOptions => (
+                "MutableUtf8Array::extend_from_options",
+                self.extend_from_options(&[Some(TEXT), None]),
+            ),
+            Growth::ExtendConstant => (
+                "MutableUtf8Array::extend_constant",
+                self.extend_constant(90, Some(TEXT)),
+            ),
             Growth::ExtendFromArray => (
                 "MutableUtf8Array::extend_from_array",
                 self.extend_from_array(other, 0, other.len()),
             ),
             Growth::Reserve => ("MutableUtf8Array::reserve", self.reserve(90, 90)),
+            Growth::ShrinkToFit => ("MutableUtf8Array::shrink_to_fit", self.shrink_to_fit()),
             Growth::Pop => ("MutableUtf8Array::pop", self.pop().map(drop)),
         }
     }
@@ -248,11 +269,24 @@ impl Grows<BinaryArray<i32>> for MutableBinaryArray<i32> {
         match growth {
             Growth::Push => ("MutableBinaryArray::push", self.push(Some(TEXT.as_bytes()))),
             Growth::PushNull => ("MutableBinaryArray::push_null", self.push_null()),
+            Growth::ExtendFromSlice => (
+                "MutableBinaryArray::extend_from_slice",
+                self.extend_from_slice(&[TEXT.as_bytes(), TEXT.as_bytes()]),
+            ),
+            Growth::ExtendFromOptions => (
+                "MutableBinaryArray::extend_from_options",
+                self.extend_from_options(&[Some(TEXT.as_bytes()), None]),
+            ),
+            Growth::ExtendConstant => (
+                "MutableBinaryArray::extend_constant",
+                self.extend_constant(90, Some(TEXT.as_bytes())),
+            ),
             Growth::ExtendFromArray => (
                 "MutableBinaryArray::extend_from_array",
                 self.extend_from_array(other, 0, other.len()),
             ),
             Growth::Reserve => ("MutableBinaryArray::reserve", self.reserve(90, 90)),
+            Growth::ShrinkToFit => ("MutableBinaryArray::shrink_to_fit", self.shrink_to_fit()),
             Growth::Pop => ("MutableBinaryArray::pop", self.pop().map(drop)),
         }
     }
@@ -312,8 +346,12 @@ fn grow_each_way<R: Print + Eprint, A, B: Grows<A>>(
     for growth in [
         Growth::Push,
         Growth::PushNull,
+        Growth::ExtendFromSlice,
+        Growth::ExtendFromOptions,
+        Growth::ExtendConstant,
         Growth::ExtendFromArray,
         Growth::Reserve,
+        Growth::ShrinkToFit,
         Growth::Pop,
     ] {
         let mut array: B = array_to_grow(alloc, growth, other)?;

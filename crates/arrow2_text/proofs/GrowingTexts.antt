@@ -1,6 +1,6 @@
 -- Texts as they grow: each of them stays UTF-8.
 use Rattle.std.proofs.Common.{◌≡◌, ◌∙◌, ℕ, List, [], ◌∷◌, ◌++◌, Bool, get_or, length, ap, subst, sym, arith}
-use Rattle.std.specs.Prelude.{IfSome, IsUtf8, Option, Some, None, Result, Ok, Err}
+use Rattle.std.specs.Prelude.{IfSome, IsUtf8, OnOk, Option, Some, None, Result, Ok, Err}
 use Rattle.std.proofs.Math.ListN.{get_or-append}
 use Rattle.std.proofs.Math.Seq.{get_or-append_seam}
 use Rattle.std.proofs.lemmas.List.{length-append}
@@ -30,9 +30,13 @@ pub part-texts : (a : BinaryParts) (k n : ℕ) → AreTexts (buffer_items a.offs
 part-texts a k n h = record { texts = All-take IsUtf8 n _ (All-drop IsUtf8 k _ h.texts) }
 
 module _ {T : Type 0} (max : ℕ) (old new : GrowingSlots) (values : List (List ℕ)) (valid : List Bool) (n : ℕ) where
+  pub grown-known : (r : Result T Error) → AppendsSlots max r old new values valid n → AreUtf8 old.values → OnOk r (AreUtf8 values) → AreUtf8 new.values
+  grown-known (Ok x) a h more = rw a.ok_values (record { texts = All-append IsUtf8 old.values values h.texts more.texts })
+  grown-known (Err x) a h more = same-texts old.values new.values h a.err_values
+
   pub grown-texts : (r : Result T Error) → AppendsSlots max r old new values valid n → AreUtf8 old.values → AreUtf8 values → AreUtf8 new.values
-  grown-texts (Ok x) a h more = rw a.ok_values (record { texts = All-append IsUtf8 old.values values h.texts more.texts })
-  grown-texts (Err x) a h more = same-texts old.values new.values h a.err_values
+  grown-texts (Ok x) a h more = grown-known (Ok x) a h more
+  grown-texts (Err x) a h more = grown-known (Err x) a h tt
 
 module _ {V : Type 0} (bytes_of : V → List ℕ) (old new : GrowingSlots) where
   front-texts : (value : List ℕ) → old.values ≡ new.values ++ value ∷ [] → AreUtf8 old.values → AreUtf8 new.values

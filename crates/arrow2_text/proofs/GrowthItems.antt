@@ -46,6 +46,12 @@ module _ {T : Type 0} (max : ℕ) (old new : GrowingSlots) (values : List (List 
         byte_capacity = a.byte_capacity;
       }
 
+-- slots without items have no validity
+pub none-valid : (xs : List (List ℕ)) (vs : List Bool) → length vs ≡ length xs → zipped xs vs ≡ [] → vs ≡ []
+none-valid [] [] e is = refl
+none-valid [] (v ∷ vs) e is = absurd (omega (arith, e))
+none-valid (x ∷ xs) vs e is = let n = length-zipped (x ∷ xs) vs e in absurd (omega (arith, ap length is, n))
+
 -- where there is a bitmap, by how many items are null
 pub bitmap-there : (made known : Option BitmapStorage) (values : List (List ℕ)) (valid vs : List Bool) → length valid ≡ length values → valid ≡ vs → made ≡ known → (IsNone known ↔ (falses vs ≡ 0)) → (IsNone made ↔ (count_by is_none (zipped values valid) ≡ 0))
 bitmap-there made known values valid vs same is e none = rw (e, nulls-zipped values valid same, is) none

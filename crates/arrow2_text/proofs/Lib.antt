@@ -1,3 +1,4 @@
+pub mod AppendedItems
 pub mod CollectedItems
 pub mod GrowingTexts
 pub mod GrowthItems

@@ -1,6 +1,6 @@
 -- The contracts of growth of arrays of byte strings and of texts.
 use Rattle.std.specs.Prelude.{◌≡◌, ℕ, ◌+◌, ◌<◌, ◌≤◌, ◌^◌, ◌↔◌, ◌⊎◌, List, [], ◌∷◌, ◌++◌, Bool, false, Option, None, length, map, sum, slice_index_or, option_map, MatchOption, IfNone, IfSome, Result, OnOk, OnErr, IsOk, IfErr, IfOk, IsErrOf}
-use Rattle.std.specs.Option.{option_copied, option_map_or}
+use Rattle.std.specs.Option.{option_copied, option_map_or, unwrap_or}
 use Rattle.std.specs.Iterator.{Yields}
 use Rattle.std.specs.Borrow.{Bor}
 use Rattle.arrow2_types.specs.declared.error.Error.{Error}
@@ -194,9 +194,13 @@ pub record LosesLastSlot (old new : GrowingSlots) : Type 0 where
   pub capacity : new.capacity ≡ old.capacity
   pub byte_capacity : new.byte_capacity ≡ old.byte_capacity
 
--- the items of an iterator, each by its bytes
+-- options of byte strings, each by its bytes
 abbrev pub items_by_bytes : List (Option (Bor (List ℕ))) → List (Option (List ℕ))
 items_by_bytes items = map option_copied items
+
+-- the bytes of each item, and no bytes for a null
+abbrev pub values_of_items : List (Option (List ℕ)) → List (List ℕ)
+values_of_items items = map (λ item. unwrap_or item []) items
 
 -- the number of bytes of items
 abbrev pub bytes_of_items : List (Option (List ℕ)) → ℕ

@@ -5,6 +5,7 @@ ghost use Rattle.either.specs.Either.{MatchEither};
 ghost use Rattle.arrow2_model.specs.Buffers.{buffer_items, whole_buffer};
 ghost use Rattle.arrow2_model.specs.Parts.{part};
 ghost use Rattle.arrow2_model.specs.Storage.{items_of};
+ghost use Rattle.arrow2_walks.specs.Selections.{non_null_values};
 ghost use Rattle.arrow2_walks.specs.Zipped.{zipped};
 ghost use Rattle.arrow2_offset.specs.Offsets.{last_of};
 ghost use Rattle.arrow2_validity.specs.OptionalValidity.{valid_items};
@@ -15,7 +16,9 @@ ghost use Rattle.arrow2_text.specs.Growth.{bytes_of_items, items_by_bytes};
 ghost use Rattle.arrow2_text.specs.Failures.{RejectsParts, other_binary_layout_message, past_the_values_message};
 
 use crate::checks::{binary_type, check_binary};
-use crate::iterator::BinaryIter;
+use crate::iterator::{
+    ArrayIter, ArrayNonNullValuesIter, ArrayValuesIter, BinaryIter, BinaryValueIter,
+};
 use crate::mutable_binary::MutableBinaryArray;
 use crate::slots::Slots;
 use arrow2_bitmap::Bitmap;
@@ -159,9 +162,7 @@ impl<O: Offset> BinaryArray<O> {
         ensures only { IfErr result (λ e. (e ≡ Error.Overflow) ⊎ (e ≡ Error.OutOfMemory)) }
     {
         let mut array = MutableBinaryArray::with_capacity(alloc, values.len(), 0)?;
-        for value in values {
-            array.push(Some(*value))?;
-        }
+        array.extend_from_slice(values)?;
         array.freeze()
     }
 
@@ -186,9 +187,7 @@ impl<O: Offset> BinaryArray<O> {
         ensures only { IfErr result (λ e. (e ≡ Error.Overflow) ⊎ (e ≡ Error.OutOfMemory)) }
     {
         let mut array = MutableBinaryArray::with_capacity(alloc, items.len(), 0)?;
-        for item in items {
-            array.push(*item)?;
-        }
+        array.extend_from_options(items)?;
         array.freeze()
     }
 
@@ -301,7 +300,21 @@ impl<O: Offset> BinaryArray<O> {
     pub fn iter(&self) -> BinaryIter<'_, O>
         ensures { result ≡ binary_items self.now }
     {
-        BinaryIter::new(self)
+        ArrayIter::new(self)
+    }
+
+    /// Returns an iterator over the byte strings that are not null, in their order.
+    pub fn non_null_values_iter(&self) -> ArrayNonNullValuesIter<&BinaryArray<O>>
+        ensures { result ≡ non_null_values (binary_items self.now) }
+    {
+        ArrayNonNullValuesIter::new(self)
+    }
+
+    /// Returns an iterator over the byte strings, those under nulls too, from both ends.
+    pub fn values_iter(&self) -> BinaryValueIter<'_, O>
+        ensures { result ≡ binary_values self.now }
+    {
+        ArrayValuesIter::new(self)
     }
 
     /// Keeps `len` items from item `offset` on, over the same storage. Requires that `offset + len` is at most the

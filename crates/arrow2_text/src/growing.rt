@@ -1,14 +1,15 @@
 //! Slots that grow: bytes between offsets, with their validity.
-ghost use Rattle.std.specs.Prelude.{◌≡◌, ◌+◌, ◌<◌, ◌≤◌, ◌^◌, ◌↔◌, ◌⊎◌, [], ◌∷◌, ◌++◌, false, length, sum, count_by, option_map, slice_index_or, vec_capacity, IfErr, IfOk, IsErrOf, IsNone, IsOk, OnErr, OnOk};
+ghost use Rattle.std.specs.Prelude.{◌≡◌, ◌+◌, ◌*◌, ◌<◌, ◌≤◌, ◌^◌, ◌↔◌, ◌⊎◌, [], ◌∷◌, ◌++◌, All, false, length, map, replicate, sum, count_by, is_some, option_map, slice_index_or, vec_capacity, IfErr, IfNone, IfOk, IfSome, IsErrOf, IsNone, IsOk, OnErr, OnOk};
 ghost use Rattle.arrow2_model.specs.Buffers.{buffer_items};
-ghost use Rattle.std.specs.Option.{is_none};
+ghost use Rattle.std.specs.Option.{is_none, option_copied, option_map_or, unwrap_or};
 ghost use Rattle.arrow2_walks.specs.Zipped.{slot, zipped};
 ghost use Rattle.arrow2_model.specs.Parts.{part};
 ghost use Rattle.arrow2_validity.specs.OptionalValidity.{valid_items};
 ghost use Rattle.arrow2_text.specs.Binary.{binary_items, binary_values, slot_offset, slots_size, IsCompact};
 ghost use Rattle.arrow2_offset.specs.NestedLists.{cut};
-ghost use Rattle.arrow2_text.specs.Growth.{AppendsSlots, GrownBySlots, HasCapacityFor, LosesLastSlot, PopsSlot, ReservesSlots};
+ghost use Rattle.arrow2_text.specs.Growth.{AppendsSlots, AreGrowingSlots, GrownBySlots, HasCapacityFor, LosesLastSlot, PopsSlot, ReservesSlots, bytes_of_items, values_of_items};
 
+use crate::as_item::AsItem;
 use crate::slots::Slots;
 use arrow2_bitmap::MutableBitmap;
 use arrow2_buffer::Buffer;
@@ -155,6 +156,22 @@ impl<O: Offset> Growing<O> {
         self.offsets.last().to_usize()
     }
 
+    /// Returns the number of slots that fit before it allocates, including those that it holds.
+    pub(crate) fn capacity(&self) -> usize
+        ensures value { result ≡ self.now.capacity }
+        ensures within_capacity { length self.now.values ≤ result }
+    {
+        self.offsets.capacity().min(self.validity.capacity())
+    }
+
+    /// Returns the number of bytes that fit before it allocates, including those that it holds.
+    pub(crate) fn byte_capacity(&self) -> usize
+        ensures value { result ≡ self.now.byte_capacity }
+        ensures within_capacity { self.now.bytes ≤ result }
+    {
+        self.values.capacity()
+    }
+
     /// Reserves capacity for `slots` more slots and `bytes` more bytes.
     pub(crate) fn reserve(&mut self, slots: usize, bytes: usize) -> Result<()>
         // The slots, the number of bytes and the logical type are as before.
@@ -259,6 +276,99 @@ impl<O: Offset> Growing<O> {
             .unwrap();
     }
 
+    /// Appends these items, all of them or none. The items are counted before any is appended.
+    pub(crate) fn extend_from_items<S: AsItem>(&mut self, items: &[S]) -> Result<()>
+        ensures grown { AppendsSlots O.MAX result self.old self.new (values_of_items (map S.item items.now))
+            (map is_some (map S.item items.now)) (bytes_of_items (map S.item items.now)) }
+        ensures known { OnOk result (All (λ item. IfSome (S.item item) S.Known) items.now) }
+    {
+        let Some(bytes) = total_bytes(items) else {
+            // For the proof alone: these calls bring the facts that the validity has an item for each slot, and that
+            // the last offset is at most `O::MAX`.
+            let _ = (self.len(), self.bytes(), O::MAX);
+            return Err(Error::Overflow);
+        };
+        self.reserve_below(items.len(), bytes)?;
+        self.extend_reserved(items);
+        Ok(())
+    }
+
+    /// Appends these items. Requires spare capacity for them and for their bytes, that the last offset plus the number
+    /// of their bytes is at most `O::MAX`, and that a `usize` can count the slots afterwards.
+    fn extend_reserved<S: AsItem>(&mut self, items: &[S])
+        requires spare { HasCapacityFor O.MAX self.old (length items.now) (bytes_of_items (map S.item items.now)) }
+        ensures grown { GrownBySlots self.old self.new (values_of_items (map S.item items.now))
+            (map is_some (map S.item items.now)) (bytes_of_items (map S.item items.now)) }
+        ensures known { All (λ item. IfSome (S.item item) S.Known) items.now }
+    {
+        for item in items {
+            self.push_reserved(item.as_item());
+        }
+    }
+
+    /// Appends an item `additional` times, or not at all.
+    pub(crate) fn extend_constant(&mut self, additional: usize, item: Option<&[u8]>) -> Result<()>
+        ensures { let value = option_copied item.entry in
+            AppendsSlots O.MAX result self.old self.new (replicate additional (unwrap_or value []))
+            (replicate additional (is_some value)) (additional * option_map_or length value 0) }
+    {
+        let len = item.unwrap_or(&[]).len();
+        let Some(bytes) = additional.checked_mul(len) else {
+            // For the proof alone: these calls bring the facts that the validity has an item for each slot, and that
+            // the last offset is at most `O::MAX`.
+            let _ = (self.len(), self.bytes(), O::MAX);
+            return Err(Error::Overflow);
+        };
+        self.reserve_below(additional, bytes)?;
+        self.repeat_reserved(additional, item);
+        Ok(())
+    }
+
+    /// Appends an item `additional` times. Requires spare capacity for so many slots and for their bytes, that the last
+    /// offset plus the number of these bytes is at most `O::MAX`, and that a `usize` can count the slots afterwards.
+    fn repeat_reserved(&mut self, additional: usize, item: Option<&[u8]>)
+        requires spare { HasCapacityFor O.MAX self.old additional
+            (additional * option_map_or length (option_copied item) 0) }
+        ensures { let value = option_copied item.entry in
+            GrownBySlots self.old self.new (replicate additional (unwrap_or value []))
+            (replicate additional (is_some value)) (additional * option_map_or length value 0) }
+    {
+        for _ in 0..additional {
+            self.push_reserved(item);
+        }
+    }
+
+    /// Appends an item. Requires spare capacity for a slot and for its bytes, that the last offset plus the number of
+    /// these bytes is at most `O::MAX`, and that a `usize` can count the slots afterwards.
+    fn push_reserved(&mut self, item: Option<&[u8]>)
+        requires spare { HasCapacityFor O.MAX self.old 1 (option_map_or length (option_copied item) 0) }
+        ensures { GrownBySlots self.old self.new (unwrap_or (option_copied item.entry) [] ∷ [])
+            (is_some (option_copied item.entry) ∷ []) (option_map_or length (option_copied item.entry) 0) }
+    {
+        let valid = item.is_some();
+        let pushed = self.push(item.unwrap_or(&[]), valid);
+        prove!(pushed.is_ok());
+        let _ = pushed;
+    }
+
+    /// Frees unused capacity if the allocator can. Without slots the capacity for slots is 0 afterwards, and without
+    /// bytes that for bytes.
+    pub(crate) fn shrink_to_fit(&mut self) -> Result<()>
+        ensures ok { IsOk result }
+        ensures slots { AreGrowingSlots self.new self.old.values self.old.valid self.old.bytes self.old.data_type }
+        ensures same { length self.old.valid ≡ length self.old.values }
+        ensures capacity { self.new.capacity ≤ self.old.capacity }
+        ensures byte_capacity { self.new.byte_capacity ≤ self.old.byte_capacity }
+        ensures frees { self.old.valid ≡ [] → self.new.capacity ≡ 0 }
+        ensures frees_bytes { self.old.bytes ≡ 0 → self.new.byte_capacity ≡ 0 }
+    {
+        // For the proof alone: reading the length brings the invariant that the validity has an item for each slot.
+        let _ = self.len();
+        self.values.shrink_to_fit();
+        self.offsets.shrink_to_fit()?;
+        self.validity.shrink_to_fit()
+    }
+
     /// Removes the last slot and returns a copy of its bytes: `Some(None)` where the slot is null, and `None` where
     /// there is no slot.
     pub(crate) fn pop(&mut self) -> Result<Option<Option<Vec<u8>>>>
@@ -321,6 +431,19 @@ impl<O: Offset> Growing<O> {
         let validity = Validity::new(offsets.len_proxy(), validity.into_validity()?);
         Ok(Slots::new(data_type, offsets, values, validity))
     }
+}
+
+/// Returns the number of bytes of these items, or `None` if it is above `usize::MAX`.
+fn total_bytes<S: AsItem>(items: &[S]) -> Option<usize>
+    ensures some { IfSome result (λ total. total ≡ bytes_of_items (map S.item items.now)) }
+    ensures none { IfNone result (2 ^ 64 ≤ bytes_of_items (map S.item items.now)) }
+{
+    let mut total = 0_usize;
+    for item in items {
+        let bytes = item.as_item().unwrap_or(&[]);
+        total = total.checked_add(bytes.len())?;
+    }
+    Some(total)
 }
 
 /// Appends the bytes of a slot, and whether it is valid. After an error, both hold what they held. Requires that a

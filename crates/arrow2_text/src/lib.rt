@@ -1,6 +1,7 @@
 //! Arrays of nullable byte strings and texts: shared ones, and ones that grow.
 #![tactic(auto)]
 
+mod as_item;
 mod binary;
 mod checks;
 mod equal;
@@ -13,7 +14,10 @@ mod slots;
 mod utf8;
 
 pub use binary::BinaryArray;
-pub use iterator::{BinaryIter, Utf8Iter};
+pub use iterator::{
+    ArrayAccessor, ArrayIter, ArrayNonNullValuesIter, ArrayValuesIter, BinaryIter, BinaryValueIter,
+    Utf8Iter, Utf8ValuesIter,
+};
 pub use mutable_binary::MutableBinaryArray;
 pub use mutable_utf8::MutableUtf8Array;
 pub use utf8::Utf8Array;

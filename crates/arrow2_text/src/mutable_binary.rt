@@ -1,12 +1,12 @@
 //! An array of byte strings that grows.
-ghost use Rattle.std.specs.Prelude.{◌≡◌, ◌+◌, ◌<◌, ◌≤◌, ◌^◌, ◌↔◌, ◌⊎◌, [], ◌∷◌, None, length, count_by, IfErr, IfOk, IsErrOf, IsNone, IsOk, IsTrue, OnOk};
+ghost use Rattle.std.specs.Prelude.{◌≡◌, ◌+◌, ◌*◌, ◌<◌, ◌≤◌, ◌^◌, ◌↔◌, ◌⊎◌, [], ◌∷◌, None, Some, length, count_by, map, replicate, sum, IfErr, IfOk, IsErrOf, IsNone, IsOk, IsTrue, OnOk};
 ghost use Rattle.std.specs.Iterator.{IsFinite, IsFiniteIterable};
 ghost use Rattle.std.specs.Iterator.Runs.{WholeRun};
 ghost use Rattle.std.specs.Option.{is_none, option_copied, option_map_or};
 ghost use Rattle.arrow2_model.specs.Parts.{part};
 ghost use Rattle.arrow2_datatypes.specs.Types.{physical};
 ghost use Rattle.arrow2_text.specs.Binary.{binary_items, binary_layout, default_binary, slots_size, IsCompact};
-ghost use Rattle.arrow2_text.specs.Growth.{AppendsBinary, MayYieldPastOffset, PopsBinary, growing_binary, items_by_bytes, HasItems};
+ghost use Rattle.arrow2_text.specs.Growth.{AppendsBinary, HasItems, MayYieldPastOffset, PopsBinary, bytes_of_items, growing_binary, items_by_bytes};
 ghost use Rattle.arrow2_model.specs.Buffers.{buffer_items};
 
 use crate::binary::BinaryArray;
@@ -210,6 +210,26 @@ impl<O: Offset> MutableBinaryArray<O> {
         self.len() == 0
     }
 
+    /// Returns the number of items that fit before it allocates, if their bytes fit too, including the items that it
+    /// holds. arrow2 returns the capacity of the offsets alone.
+    pub fn capacity(&self) -> usize
+        ensures value { result ≡ self.now.capacity }
+        ensures within_capacity { length self.now.items ≤ result }
+    {
+        // For the proof alone: reading the length brings the fact that there are as many slots as items.
+        let _ = self.slots.len();
+        self.slots.capacity()
+    }
+
+    /// Returns the number of bytes that fit before it allocates, including the bytes that it holds. arrow2 has no
+    /// such call.
+    pub fn byte_capacity(&self) -> usize
+        ensures value { result ≡ self.now.byte_capacity }
+        ensures within_capacity { self.now.bytes ≤ result }
+    {
+        self.slots.byte_capacity()
+    }
+
     /// Reserves capacity for `additional` more items and `bytes` more bytes. Within both capacities it does not
     /// allocate.
     ///
@@ -264,6 +284,51 @@ impl<O: Offset> MutableBinaryArray<O> {
         self.slots.push(&[], false)
     }
 
+    /// Appends byte strings that are not null. Within both capacities it does not allocate, else it allocates before it
+    /// copies any of them.
+    ///
+    /// Stands for arrow2's `extend_values` and `extend_trusted_len_values`, which take iterators.
+    ///
+    /// # Errors
+    ///
+    /// `Overflow` exactly where the last offset would pass `O::MAX`, or the new length would pass `usize::MAX`; else
+    /// `OutOfMemory` alone. After either error, the array holds the items that it held.
+    pub fn extend_from_slice(&mut self, values: &[&[u8]]) -> Result<()>
+        ensures { AppendsBinary O.MAX result self.old self.new (map (λ value. Some value.now) values.now)
+            (sum (map (λ value. length value.now) values.now)) }
+    {
+        self.slots.extend_from_items(values)
+    }
+
+    /// Appends items. Within both capacities it does not allocate, else it allocates before it copies any of them.
+    ///
+    /// Stands for arrow2's `extend_trusted_len`, which takes an iterator.
+    ///
+    /// # Errors
+    ///
+    /// `Overflow` exactly where the last offset would pass `O::MAX`, or the new length would pass `usize::MAX`; else
+    /// `OutOfMemory` alone. After either error, the array holds the items that it held.
+    pub fn extend_from_options(&mut self, items: &[Option<&[u8]>]) -> Result<()>
+        ensures { AppendsBinary O.MAX result self.old self.new (items_by_bytes items.now)
+            (bytes_of_items (items_by_bytes items.now)) }
+    {
+        self.slots.extend_from_items(items)
+    }
+
+    /// Appends `item` `additional` times. Within both capacities it does not allocate, else it allocates before it
+    /// copies any byte. arrow2 has no such call for byte strings.
+    ///
+    /// # Errors
+    ///
+    /// `Overflow` exactly where the last offset would pass `O::MAX`, or the new length would pass `usize::MAX`; else
+    /// `OutOfMemory` alone. After either error, the array holds the items that it held.
+    pub fn extend_constant(&mut self, additional: usize, item: Option<&[u8]>) -> Result<()>
+        ensures { AppendsBinary O.MAX result self.old self.new (replicate additional (option_copied item.entry))
+            (additional * option_map_or length (option_copied item.entry) 0) }
+    {
+        self.slots.extend_constant(additional, item)
+    }
+
     /// Appends `len` items of `array` from item `start` on. The bytes under nulls are copied too: of these, contracts
     /// state only that they count in the number of appended bytes. Requires that `start + len` is at most the length of
     /// `array`. Within both capacities it does not allocate.
@@ -288,6 +353,23 @@ impl<O: Offset> MutableBinaryArray<O> {
         // For the proof alone: reading the length brings the invariant that the validity has an item for each slot.
         let _ = slots.len();
         self.slots.extend(slots, start, len)
+    }
+
+    /// Frees unused capacity if the allocator can, which no clause states. Without items the capacity for items is 0
+    /// afterwards, and without bytes that for bytes. Always returns `Ok`. arrow2 returns no `Result`.
+    pub fn shrink_to_fit(&mut self) -> Result<()>
+        ensures ok { IsOk result }
+        // The items, the number of bytes and the logical type are as before.
+        ensures items { self.new.items ≡ self.old.items }
+        ensures bytes { self.new.bytes ≡ self.old.bytes }
+        ensures data_type { self.new.data_type ≡ self.old.data_type }
+        // Neither capacity rises.
+        ensures capacity { self.new.capacity ≤ self.old.capacity }
+        ensures byte_capacity { self.new.byte_capacity ≤ self.old.byte_capacity }
+        ensures frees { self.old.items ≡ [] → self.new.capacity ≡ 0 }
+        ensures frees_bytes { self.old.bytes ≡ 0 → self.new.byte_capacity ≡ 0 }
+    {
+        self.slots.shrink_to_fit()
     }
 
     /// Returns the array of the items. The array has a validity bitmap exactly if an item is null.

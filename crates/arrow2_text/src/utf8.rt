@@ -5,6 +5,7 @@ ghost use Rattle.either.specs.Either.{MatchEither};
 ghost use Rattle.arrow2_model.specs.Buffers.{buffer_items, whole_buffer};
 ghost use Rattle.arrow2_model.specs.Parts.{part};
 ghost use Rattle.arrow2_model.specs.Storage.{items_of};
+ghost use Rattle.arrow2_walks.specs.Selections.{non_null_values};
 ghost use Rattle.arrow2_walks.specs.Zipped.{zipped};
 ghost use Rattle.arrow2_offset.specs.Offsets.{last_of};
 ghost use Rattle.arrow2_validity.specs.OptionalValidity.{valid_items};
@@ -17,7 +18,9 @@ ghost use Rattle.arrow2_text.specs.Failures.{RejectsParts, not_utf8, other_text_
 
 use crate::binary::BinaryArray;
 use crate::checks::{binary_type, check_utf8, text_type};
-use crate::iterator::Utf8Iter;
+use crate::iterator::{
+    ArrayIter, ArrayNonNullValuesIter, ArrayValuesIter, Utf8Iter, Utf8ValuesIter,
+};
 use crate::mutable_utf8::MutableUtf8Array;
 use crate::slots::Slots;
 use arrow2_bitmap::Bitmap;
@@ -182,9 +185,7 @@ impl<O: Offset> Utf8Array<O> {
         ensures only { IfErr result (λ e. (e ≡ Error.Overflow) ⊎ (e ≡ Error.OutOfMemory)) }
     {
         let mut array = MutableUtf8Array::with_capacity(alloc, values.len(), 0)?;
-        for value in values {
-            array.push(Some(*value))?;
-        }
+        array.extend_from_slice(values)?;
         array.freeze()
     }
 
@@ -209,9 +210,7 @@ impl<O: Offset> Utf8Array<O> {
         ensures only { IfErr result (λ e. (e ≡ Error.Overflow) ⊎ (e ≡ Error.OutOfMemory)) }
     {
         let mut array = MutableUtf8Array::with_capacity(alloc, items.len(), 0)?;
-        for item in items {
-            array.push(*item)?;
-        }
+        array.extend_from_options(items)?;
         array.freeze()
     }
 
@@ -327,7 +326,21 @@ impl<O: Offset> Utf8Array<O> {
     pub fn iter(&self) -> Utf8Iter<'_, O>
         ensures { result ≡ binary_items self.now }
     {
-        Utf8Iter::new(self)
+        ArrayIter::new(self)
+    }
+
+    /// Returns an iterator over the texts that are not null, in their order.
+    pub fn non_null_values_iter(&self) -> ArrayNonNullValuesIter<&Utf8Array<O>>
+        ensures { result ≡ non_null_values (binary_items self.now) }
+    {
+        ArrayNonNullValuesIter::new(self)
+    }
+
+    /// Returns an iterator over the texts, those under nulls too, from both ends.
+    pub fn values_iter(&self) -> Utf8ValuesIter<'_, O>
+        ensures { result ≡ binary_values self.now }
+    {
+        ArrayValuesIter::new(self)
     }
 
     /// Keeps `len` items from item `offset` on, over the same storage. Requires that `offset + len` is at most the
