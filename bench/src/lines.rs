@@ -635,9 +635,12 @@ fn texts(inputs: &Inputs) -> Vec<Line<'_>> {
     let calls = [
         ("try_new, which tests that each is UTF-8", "try_new"),
         ("push of each", "push"),
+        ("extend_from_options", "options"),
         ("compared with one", "compared"),
         ("sliced and compared", "sliced"),
         ("filter by half", "filter"),
+        ("non_null_values_iter", "values"),
+        ("min_binary", "least"),
     ];
     let mut lines = Vec::new();
     for Size { name: size, len, validity, times, elements } in sizes(inputs) {

@@ -2,7 +2,8 @@
 //! `Binary`, is new, and that `comparison` has no `primitive` and no `utf8`: it compares numbers itself, and texts in
 //! `comparison::binary`.
 
+pub mod aggregate;
 pub mod comparison;
 
 pub use arrow2_compute::{binary, boolean, concatenate, filter, if_then_else, take};
-pub use arrow2_numeric::{aggregate, cast};
+pub use arrow2_numeric::cast;

@@ -4,6 +4,7 @@ use crate::runs::on_each;
 use arrow2_bitmap::Bitmap;
 use arrow2_bitmap::bitmap_ops::and;
 use arrow2_buffer::Buffer;
+use arrow2_compute::aggregate::min_binary;
 use arrow2_compute::comparison::binary::eq_scalar;
 use arrow2_compute::filter::filter_binary;
 use arrow2_datatypes::DataType;
@@ -36,12 +37,18 @@ pub extern "C" fn bench_texts(
         make_each_run(alloc, &inputs)
     } else if call == b"push".as_slice() {
         built_each(alloc, &inputs)
+    } else if call == b"options".as_slice() {
+        built_together(alloc, &inputs)
     } else if call == b"compared".as_slice() {
         compared_each(alloc, &inputs)
     } else if call == b"sliced".as_slice() {
         sliced_each(alloc, &inputs)
     } else if call == b"filter".as_slice() {
         filtered_each(alloc, &inputs)
+    } else if call == b"values".as_slice() {
+        read_each(alloc, &inputs)
+    } else if call == b"least".as_slice() {
+        least_each(alloc, &inputs)
     } else {
         Ok(usize::MAX)
     };
@@ -73,6 +80,12 @@ fn built_each(alloc: Global, inputs: &Inputs<'_>) -> Result<usize> {
     Ok(on_each(inputs.runs, |run| push_each(&first(&texts, *run)?)))
 }
 
+/// Adds up the bytes of copies of prefixes that are made of all texts at once.
+fn built_together(alloc: Global, inputs: &Inputs<'_>) -> Result<usize> {
+    let texts = texts(alloc, inputs)?;
+    Ok(on_each(inputs.runs, |run| extend_once(&first(&texts, *run)?)))
+}
+
 /// Compares each text of prefixes with the first one.
 fn compared_each(alloc: Global, inputs: &Inputs<'_>) -> Result<usize> {
     let texts = texts(alloc, inputs)?;
@@ -93,6 +106,18 @@ fn filtered_each(alloc: Global, inputs: &Inputs<'_>) -> Result<usize> {
         let mask = mask.clone()?.sliced(0, (*run).min(mask.len()));
         filter_texts(&first(&texts, *run)?, &mask)
     }))
+}
+
+/// Adds up the bytes of the texts of prefixes that are not null.
+fn read_each(alloc: Global, inputs: &Inputs<'_>) -> Result<usize> {
+    let texts = texts(alloc, inputs)?;
+    Ok(on_each(inputs.runs, |run| Ok(sum_of_lengths(&first(&texts, *run)?))))
+}
+
+/// Adds up the bytes of the least text of each prefix.
+fn least_each(alloc: Global, inputs: &Inputs<'_>) -> Result<usize> {
+    let texts = texts(alloc, inputs)?;
+    Ok(on_each(inputs.runs, |run| Ok(least_len(&first(&texts, *run)?))))
 }
 
 /// Returns a prefix of the texts, at most as long as a run states.
@@ -122,6 +147,15 @@ fn push_each(texts: &Utf8Array<i64>) -> Result<usize> {
     Ok(copy.freeze()?.values().len())
 }
 
+/// The number of bytes of a copy to which all texts are appended at once.
+fn extend_once(texts: &Utf8Array<i64>) -> Result<usize> {
+    let alloc = texts.values().allocator();
+    let items: Vec<Option<&str>> = texts.iter().collect(alloc)?;
+    let mut copy = MutableUtf8Array::<i64>::new(alloc)?;
+    copy.extend_from_options(items.as_slice())?;
+    Ok(copy.freeze()?.values().len())
+}
+
 /// Counts the texts that are null or differ from the first slot.
 fn compare_with_first(texts: &Utf8Array<i64>) -> Result<usize> {
     if texts.is_empty() {
@@ -141,6 +175,23 @@ fn slice_and_compare(texts: &Utf8Array<i64>) -> Result<usize> {
     };
     let (left, right) = (texts.clone()?.sliced(1, len), texts.clone()?.sliced(1, len));
     Ok(usize::from(left == right))
+}
+
+/// The number of bytes of the texts that are not null.
+fn sum_of_lengths(texts: &Utf8Array<i64>) -> usize {
+    let mut sum = 0usize;
+    for text in texts.non_null_values_iter() {
+        sum = sum.wrapping_add(text.len());
+    }
+    sum
+}
+
+/// The number of bytes of the least text, 0 where each is null.
+fn least_len(texts: &Utf8Array<i64>) -> usize {
+    match min_binary(texts) {
+        Some(least) => least.len(),
+        None => 0,
+    }
 }
 
 /// The number of bytes of the texts that the mask selects.

@@ -2,6 +2,7 @@
 mod checks;
 mod comparisons;
 mod facade;
+mod items;
 mod kernels;
 mod number_kernels;
 mod numbers;

@@ -6,3 +6,4 @@ pub mod Keys
 mod ItemsAtIndices
 mod FilteredSlots
 mod Choices
+mod Extremes

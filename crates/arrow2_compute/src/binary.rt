@@ -1,5 +1,6 @@
 //! A trait for arrays of byte strings and of texts, with the calls that kernels need.
 ghost use Rattle.std.specs.Prelude.{◌≡◌, ◌+◌, ◌<◌, ◌≤◌, [], None, ℕ, length, slice_index_or, IfOk, IfErr};
+ghost use Rattle.std.specs.Option.{option_copied};
 ghost use Rattle.arrow2_compute.specs.Sizes.{AppendsItem, binary_item, slot_bytes, with_bitmap};
 ghost use Rattle.arrow2_model.specs.Buffers.{buffer_items};
 ghost use Rattle.arrow2_model.specs.Parts.{part};
@@ -39,6 +40,11 @@ pub trait Binary: Nullable + Drop {
     fn value(&self, index: usize) -> &[u8]
         requires below { index < length (binary_items (parts self.now)) }
         ensures { result.now ≡ slice_index_or (binary_values (parts self.now)) index [] };
+
+    /// Returns the bytes of item `index`, or `None` where it is null. Requires that `index` is below the length.
+    fn item(&self, index: usize) -> Option<&[u8]>
+        requires below { index < length (binary_items (parts self.now)) }
+        ensures { option_copied result ≡ binary_item (parts self.now) index };
 
     /// Returns the validity.
     fn optional_validity(&self) -> &Validity
@@ -140,6 +146,10 @@ impl<O: Offset> Binary for BinaryArray<O> {
         self.value(index)
     }
 
+    fn item(&self, index: usize) -> Option<&[u8]> {
+        self.get(index)
+    }
+
     fn optional_validity(&self) -> &Validity {
         // For the proof alone: reading the length brings the fact that there is an item for each slot.
         let _ = self.len();
@@ -204,6 +214,13 @@ impl<O: Offset> Binary for Utf8Array<O> {
 
     fn value(&self, index: usize) -> &[u8] {
         self.value(index).as_bytes()
+    }
+
+    fn item(&self, index: usize) -> Option<&[u8]> {
+        match self.get(index) {
+            Some(text) => Some(text.as_bytes()),
+            None => None,
+        }
     }
 
     fn optional_validity(&self) -> &Validity {

@@ -1,7 +1,8 @@
 //! Functions on whole arrays of any type: those that select, join or choose items, and those that find nulls; and
-//! comparisons of byte strings, of texts and of booleans.
+//! comparisons, least and greatest items of arrays of byte strings, of texts and of booleans.
 #![tactic(auto)]
 
+pub mod aggregate;
 pub mod binary;
 pub mod boolean;
 pub mod comparison;

@@ -1,7 +1,10 @@
 //! Items of the one crate that users name, at their paths: this file compiles. Other tests name the arrays of numbers,
 //! of byte strings and of texts, and `compute`.
 use super::checks::{assert_text, assert_that};
-pub use arrow2::array::{BooleanArray, BooleanIter, MutableBooleanArray};
+pub use arrow2::array::{
+    ArrayAccessor, ArrayIter, ArrayNonNullValuesIter, ArrayValuesIter, BinaryIter, BinaryValueIter,
+    BooleanArray, BooleanIter, MutableBooleanArray, Utf8Iter, Utf8ValuesIter,
+};
 pub use arrow2::bitmap::utils::{
     BitChunkIterExact, BitChunks, BitChunksExact, BitChunksExactMut, BitmapIter, Reads,
     SlicesIterator, Stored, ZipValidity, ZipValidityIter, count_zeros_counted, recount,

@@ -194,3 +194,59 @@ fn arrays_are_made_of_iterators(rt: HostRuntime) {
     let first = BinaryArray::<i64>::from_options(alloc, &[Some("é".as_bytes())]);
     ends(&rt, copy, &ok(&rt, first), "abc".as_bytes());
 }
+
+#[test]
+fn many_items_are_appended_at_once(rt: HostRuntime) {
+    let alloc = rt.alloc();
+    let mut texts = ok(&rt, MutableUtf8Array::<i32>::new(alloc));
+    ok(&rt, texts.extend_from_slice(&["a", "é"]));
+    ok(&rt, texts.extend_from_options(&[None, Some("bc")]));
+    ok(&rt, texts.extend_constant(2, Some("d")));
+    ok(&rt, texts.extend_constant(1, None));
+    let call = texts.extend_constant(1 << 31, Some("e"));
+    assert_prints(&rt, alloc, &call, "Err(Overflow)");
+    let call = texts.extend_constant(usize::MAX, Some("ef"));
+    assert_prints(&rt, alloc, &call, "Err(Overflow)");
+    let call = texts.extend_constant(usize::MAX, None);
+    assert_prints(&rt, alloc, &call, "Err(Overflow)");
+    ok(&rt, texts.extend_constant(0, Some("gh")));
+    ok(&rt, texts.extend_from_slice(&[]));
+    assert_that(&rt, texts.capacity() >= 7);
+    assert_that(&rt, texts.byte_capacity() >= 7);
+    assert_made(
+        &rt,
+        alloc,
+        texts.freeze(),
+        "Utf8Array[a, é, None, bc, d, d, None]",
+    );
+}
+
+#[test]
+fn capacity_that_is_not_used_is_freed(rt: HostRuntime) {
+    let mut bytes = ok(
+        &rt,
+        MutableBinaryArray::<i64>::with_capacity(rt.alloc(), 9, 70),
+    );
+    assert_that(&rt, bytes.capacity() >= 9 && bytes.byte_capacity() >= 70);
+    ok(&rt, bytes.shrink_to_fit());
+    assert_that(&rt, bytes.capacity() == 0 && bytes.byte_capacity() == 0);
+    let mut texts = ok(
+        &rt,
+        MutableUtf8Array::<i32>::with_capacity(rt.alloc(), 900, 7000),
+    );
+    ok(&rt, texts.push(Some("a")));
+    ok(&rt, texts.shrink_to_fit());
+    assert_that(&rt, texts.capacity() < 900 && texts.byte_capacity() < 7000);
+}
+
+#[test]
+fn more_bytes_than_an_offset_counts_are_rejected(rt: HostRuntime) {
+    let alloc = rt.alloc();
+    let mut array = ok(&rt, MutableBinaryArray::<i32>::new(alloc));
+    ok(&rt, array.push(Some(&[7])));
+    let block = ok(&rt, vec![in alloc; 0u8; 1 << 20]);
+    let blocks = ok(&rt, vec![in alloc; block.as_slice(); 2048]);
+    let call = array.extend_from_slice(blocks.as_slice());
+    assert_prints(&rt, alloc, &call, "Err(Overflow)");
+    assert_made(&rt, alloc, array.freeze(), "BinaryArray[[7]]");
+}
