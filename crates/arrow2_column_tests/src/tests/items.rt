@@ -1,8 +1,8 @@
-//! What arrays of texts, of byte strings and of booleans give of their items, at each length up to 300, and on a
-//! million items: their values, with and without those under nulls, and the least and the greatest item. Each is
-//! compared with plain code over lists. The arrays are made of all items at once.
+//! What arrays of texts, of byte strings and of booleans give of their items: their values, with and without those under
+//! nulls, and the least and the greatest item; of booleans at each length up to 300 and on a million items, compared with
+//! plain code over lists. The arrays of texts and of byte strings are made of all items at once.
 use super::checks::{assert_list, assert_that, ok};
-use super::kernels::{booleans, booleans_below, texts_below};
+use super::kernels::{booleans, booleans_below};
 use arrow2::array::{BinaryArray, MutableBinaryArray, MutableUtf8Array, Utf8Array};
 use arrow2::compute::aggregate::{max_binary, max_boolean, min_binary, min_boolean};
 use arrow2::datatypes;
@@ -10,42 +10,15 @@ use arrow2::types::Offset;
 use std::alloc::Global;
 use std::process::Abort;
 
-/// Returns the values of these items: those that are not null, and for each null `under`, if it is given.
-fn values_of<T: Copy>(
-    rt: &impl Abort,
-    alloc: Global,
-    items: &[Option<T>],
-    under: Option<T>,
-) -> Vec<T> {
+/// Returns the items that are not null.
+fn values_of<T: Copy>(rt: &impl Abort, alloc: Global, items: &[Option<T>]) -> Vec<T> {
     let mut values = Vec::new(alloc);
     for item in items {
-        if let Some(value) = item.or(under) {
+        if let Some(value) = *item {
             ok(rt, values.push(value));
         }
     }
     values
-}
-
-/// Returns the bytes of these texts.
-fn bytes_of<'a>(
-    rt: &impl Abort,
-    alloc: Global,
-    items: &[Option<&'a str>],
-) -> Vec<Option<&'a [u8]>> {
-    let mut bytes = Vec::new(alloc);
-    for item in items {
-        ok(rt, bytes.push(item.map(|text| text.as_bytes())));
-    }
-    bytes
-}
-
-/// Returns the items from the last to the first.
-fn reversed<T: Copy>(rt: &impl Abort, alloc: Global, items: &[T]) -> Vec<T> {
-    let mut back = Vec::new(alloc);
-    for item in items.iter().rev() {
-        ok(rt, back.push(*item));
-    }
-    back
 }
 
 /// Returns the array of these items, a part of one that has an item before them, and an item and a null after them.
@@ -82,64 +55,10 @@ fn bytes_together<O: Offset>(
     array.sliced(1, items.len())
 }
 
-/// Checks what an array of texts gives of these items.
-fn texts_agree<O: Offset>(rt: &impl Abort, alloc: Global, items: &[Option<&str>]) {
-    let array = texts_together::<O>(rt, alloc, items);
-    assert_list(rt, array.iter().collect(alloc), items);
-    let back = reversed(rt, alloc, items);
-    assert_list(rt, array.iter().rev().collect(alloc), back.as_slice());
-    let values = values_of(rt, alloc, items, Some(""));
-    let back = reversed(rt, alloc, values.as_slice());
-    assert_list(
-        rt,
-        array.values_iter().rev().collect(alloc),
-        back.as_slice(),
-    );
-    assert_list(rt, array.values_iter().collect(alloc), values.as_slice());
-    let values = values_of(rt, alloc, items, None);
-    assert_list(
-        rt,
-        array.non_null_values_iter().collect(alloc),
-        values.as_slice(),
-    );
-    let values = values.as_slice();
-    let least = values.iter().min().map(|text| text.as_bytes());
-    assert_that(rt, min_binary(&array) == least);
-    let greatest = values.iter().max().map(|text| text.as_bytes());
-    assert_that(rt, max_binary(&array) == greatest);
-}
-
-/// Checks what an array of byte strings gives of these items.
-fn bytes_agree<O: Offset>(rt: &impl Abort, alloc: Global, items: &[Option<&[u8]>]) {
-    let array = bytes_together::<O>(rt, alloc, items);
-    assert_that(
-        rt,
-        array.values_iter().size_hint() == (items.len(), Some(items.len())),
-    );
-    assert_list(rt, array.iter().collect(alloc), items);
-    let values = values_of(rt, alloc, items, Some(&[]));
-    assert_list(rt, array.values_iter().collect(alloc), values.as_slice());
-    let values = values_of(rt, alloc, items, None);
-    assert_list(
-        rt,
-        array.non_null_values_iter().collect(alloc),
-        values.as_slice(),
-    );
-    let values = values.as_slice();
-    assert_that(
-        rt,
-        min_binary(&array) == values.iter().min().map(|bytes| *bytes),
-    );
-    assert_that(
-        rt,
-        max_binary(&array) == values.iter().max().map(|bytes| *bytes),
-    );
-}
-
 /// Checks the least and the greatest of booleans.
 fn booleans_agree(rt: &impl Abort, alloc: Global, items: &[Option<bool>]) {
     let array = booleans(rt, alloc, items);
-    let values = values_of(rt, alloc, items, None);
+    let values = values_of(rt, alloc, items);
     let values = values.as_slice();
     assert_that(
         rt,
@@ -151,18 +70,8 @@ fn booleans_agree(rt: &impl Abort, alloc: Global, items: &[Option<bool>]) {
     );
 }
 
-/// Checks arrays of these texts and of their bytes, with offsets of both widths.
-fn both_widths_agree(rt: &impl Abort, alloc: Global, texts: &[Option<&str>]) {
-    texts_agree::<i32>(rt, alloc, texts);
-    texts_agree::<i64>(rt, alloc, texts);
-    let bytes = bytes_of(rt, alloc, texts);
-    bytes_agree::<i32>(rt, alloc, bytes.as_slice());
-    bytes_agree::<i64>(rt, alloc, bytes.as_slice());
-}
-
-/// Checks arrays of a length.
-fn arrays_agree(rt: &impl Abort, alloc: Global, len: usize, nulls: usize) {
-    both_widths_agree(rt, alloc, texts_below(rt, alloc, len, 2, nulls).as_slice());
+/// Checks booleans of a length.
+fn extremes_agree(rt: &impl Abort, alloc: Global, len: usize, nulls: usize) {
     let flags = booleans_below(rt, alloc, len, 3, nulls);
     booleans_agree(rt, alloc, flags.as_slice());
     booleans_agree(
@@ -194,25 +103,54 @@ fn values_alike(
 }
 
 #[test]
-fn arrays_agree_with_lists(rt: HostRuntime) {
+fn extremes_of_booleans_agree_with_lists(rt: HostRuntime) {
     let alloc = rt.alloc();
     for len in 0..=300 {
-        arrays_agree(&rt, alloc, len, 0);
-        arrays_agree(&rt, alloc, len, 1);
-        arrays_agree(&rt, alloc, len, 3);
+        extremes_agree(&rt, alloc, len, 0);
+        extremes_agree(&rt, alloc, len, 1);
+        extremes_agree(&rt, alloc, len, 3);
     }
-    arrays_agree(&rt, alloc, 1_000_000, 3);
+    extremes_agree(&rt, alloc, 1_000_000, 3);
+}
+
+/// Checks the least and the greatest of texts.
+fn extremes_are<O: Offset>(
+    rt: &impl Abort,
+    alloc: Global,
+    items: &[Option<&str>],
+    least: &str,
+    greatest: &str,
+) {
+    let texts = texts_together::<O>(rt, alloc, items);
+    assert_that(rt, min_binary(&texts) == Some(least.as_bytes()));
+    assert_that(rt, max_binary(&texts) == Some(greatest.as_bytes()));
 }
 
 #[test]
 fn the_least_and_the_greatest_stand_anywhere(rt: HostRuntime) {
     let alloc = rt.alloc();
     let (a, ab, b) = (Some("a"), Some("ab"), Some("b"));
-    both_widths_agree(&rt, alloc, &[ab, b, None, a, b]);
-    both_widths_agree(&rt, alloc, &[None, ab, a, ab, None]);
-    both_widths_agree(&rt, alloc, &[a, ab, Some("é"), Some("z")]);
-    both_widths_agree(&rt, alloc, &[b, b]);
-    both_widths_agree(&rt, alloc, &[Some("z"), Some("é"), a]);
+    extremes_are::<i32>(&rt, alloc, &[ab, b, None, a, b], "a", "b");
+    extremes_are::<i64>(&rt, alloc, &[None, ab, a, ab, None], "a", "ab");
+    extremes_are::<i32>(&rt, alloc, &[a, ab, Some("é"), Some("z")], "a", "é");
+    extremes_are::<i64>(&rt, alloc, &[b, b], "b", "b");
+    extremes_are::<i64>(&rt, alloc, &[Some("z"), Some("é"), a], "a", "é");
+}
+
+#[test]
+fn bytes_come_from_both_ends(rt: HostRuntime) {
+    let alloc = rt.alloc();
+    let (a, b) = ([1, 2].as_slice(), [3].as_slice());
+    let array = bytes_together::<i64>(&rt, alloc, &[Some(b), None, Some(a)]);
+    assert_list(
+        &rt,
+        array.iter().rev().collect(alloc),
+        &[Some(a), None, Some(b)],
+    );
+    assert_list(&rt, array.values_iter().rev().collect(alloc), &[a, &[], b]);
+    assert_list(&rt, array.non_null_values_iter().collect(alloc), &[b, a]);
+    assert_that(&rt, min_binary(&array) == Some(a));
+    assert_that(&rt, max_binary(&array) == Some(b));
 }
 
 /// Returns three texts, of which the second is null, though its slot has bytes.
