@@ -7,4 +7,4 @@ pub use Rattle.arrow2_model.proofs.Shown.{texts}
 pub use Rattle.arrow2_model.proofs.Texts.{texts_of_lists}
 pub use Rattle.arrow2_model.proofs.Cursors.{parts}
 pub use Rattle.arrow2_model.proofs.Words.{by_words}
-pub use Rattle.arrow2_validity.proofs.ItemParts.{iterating}
+pub use Rattle.arrow2_walks.proofs.ItemParts.{iterating}

@@ -4,11 +4,11 @@
 pub mod specification;
 
 pub use arrow2_array::{BooleanArray, BooleanIter, MutableBooleanArray};
-pub use arrow2_primitive::{
-    MutablePrimitiveArray, NonNullValuesIter, PrimitiveArray, PrimitiveIter,
-};
+pub use arrow2_primitive::{MutablePrimitiveArray, PrimitiveArray, PrimitiveIter};
+// `arrow2::buffer` has another `Bytes`.
 pub use arrow2_text::{
-    ArrayAccessor, ArrayIter, ArrayNonNullValuesIter, ArrayValuesIter, BinaryArray, BinaryIter,
-    BinaryValueIter, MutableBinaryArray, MutableUtf8Array, Utf8Array, Utf8Iter, Utf8ValuesIter,
+    BinaryArray, BinaryIter, BinaryValueIter, Bytes as SeenBytes, MutableBinaryArray,
+    MutableUtf8Array, Utf8Array, Utf8Iter, Utf8ValuesIter,
 };
 pub use arrow2_validity::{Validity, check_same_length};
+pub use arrow2_walks::{ArrayAccessor, ArrayIter, ArrayValuesIter, NonNullValuesIter};

@@ -10,6 +10,7 @@ ghost use Rattle.arrow2_model.specs.Parts.{part};
 ghost use Rattle.arrow2_model.specs.Storage.{items_of};
 ghost use Rattle.arrow2_model.specs.Tables.{each};
 ghost use Rattle.arrow2_bitmap.specs.PackedBitmaps.{IsPacked};
+ghost use Rattle.arrow2_walks.specs.Selections.{non_null_values};
 ghost use Rattle.arrow2_walks.specs.Zipped.{zipped};
 ghost use Rattle.arrow2_types.specs.Failures.{FailsOnlyWith};
 ghost use Rattle.arrow2_validity.specs.OptionalValidity.{valid_items};
@@ -24,8 +25,10 @@ use crate::kleene::{
 use crate::mutable::MutableBooleanArray;
 use arrow2_bitmap::Bitmap;
 use arrow2_bitmap::bitmap_ops::binary_table;
+use arrow2_bits::BitmapIter;
 use arrow2_types::{Error, Result};
 use arrow2_validity::Validity;
+use arrow2_walks::{ArrayIter, NonNullValuesIter};
 use std::alloc::{AllocError, Global};
 use std::marker::Model;
 
@@ -123,11 +126,11 @@ impl BooleanArray {
     /// Returns the array of these items. It has a validity bitmap exactly if an item is null. The values under nulls
     /// are unspecified.
     ///
-    /// Replaces arrow2's `From` of a slice of `Option<bool>`s.
+    /// Stands for arrow2's `From` of a slice of `Option<bool>`s.
     ///
     /// # Errors
     ///
-    /// `OutOfMemory` alone.
+    /// Only `OutOfMemory`.
     #[tactic(auto, using(crate::proofs::Items::growing))]
     pub fn from_options(alloc: Global, items: &[Option<bool>]) -> Result<BooleanArray>
         ensures items { IfOk result (λ a. boolean_items a ≡ items.now) }
@@ -136,10 +139,8 @@ impl BooleanArray {
         ensures packed { IfOk result (λ a. IfSome a.validity.bitmap (λ v. IsPacked v)) }
         ensures only { IfErr result (λ e. e ≡ Error.OutOfMemory) }
     {
-        let mut array = MutableBooleanArray::with_capacity(alloc, items.len())?;
-        for item in items {
-            array.push(*item)?;
-        }
+        let mut array = MutableBooleanArray::new(alloc);
+        array.extend_from_options(items)?;
         array.freeze()
     }
 
@@ -285,11 +286,25 @@ impl BooleanArray {
         (self.values, self.validity.into_bitmap())
     }
 
-    /// Returns an iterator over the items, from both ends.
+    /// Returns a double-ended iterator over the items.
     pub fn iter(&self) -> BooleanIter<'_>
         ensures { result ≡ boolean_items self.now }
     {
-        BooleanIter::new(self)
+        ArrayIter::new(self)
+    }
+
+    /// Returns a double-ended iterator over the stored values, those under nulls too.
+    pub fn values_iter(&self) -> BitmapIter<'_>
+        ensures { result ≡ items_of self.now.values }
+    {
+        self.values.iter()
+    }
+
+    /// Returns an iterator over the values that are not null, in their order.
+    pub fn non_null_values_iter(&self) -> NonNullValuesIter<&BooleanArray>
+        ensures { result ≡ non_null_values (boolean_items self.now) }
+    {
+        NonNullValuesIter::new(self)
     }
 
     /// Returns, item by item, whether both items are true, by Kleene's logic: false if either item is false, else null
@@ -300,7 +315,7 @@ impl BooleanArray {
     ///
     /// # Errors
     ///
-    /// `OutOfMemory` alone.
+    /// Only `OutOfMemory`.
     pub fn and_kleene(&self, other: &BooleanArray) -> Result<BooleanArray>
         requires same_length { length (boolean_items self.now) ≡ length (boolean_items other.now) }
         // The result, item by item.
@@ -333,7 +348,7 @@ impl BooleanArray {
     ///
     /// # Errors
     ///
-    /// `OutOfMemory` alone.
+    /// Only `OutOfMemory`.
     pub fn or_kleene(&self, other: &BooleanArray) -> Result<BooleanArray>
         requires same_length { length (boolean_items self.now) ≡ length (boolean_items other.now) }
         // The result, item by item.
@@ -398,6 +413,7 @@ impl BooleanArray {
     }
 }
 
+/// Iterates over the items, as [`BooleanArray::iter`] does.
 impl<'a> IntoIterator for &'a BooleanArray {
     type Item = Option<bool>;
 

@@ -1,9 +1,12 @@
 //! An array of booleans that grows.
-ghost use Rattle.std.specs.Prelude.{◌≡◌, ◌+◌, ◌≤◌, ◌^◌, ◌↔◌, ◌⊎◌, ◌++◌, [], ◌∷◌, None, length, replicate, IfOk, IfErr, IsErrOf, IsOk, IfNone, IsNone, IfSome, IsTrue, MatchOption, OnOk};
+ghost use Rattle.std.specs.Prelude.{◌≡◌, ◌+◌, ◌<◌, ◌≤◌, ◌^◌, ◌↔◌, ◌⊎◌, ◌++◌, [], ◌∷◌, None, Some, length, map, replicate, IfOk, IfErr, IsErrOf, IsOk, IfNone, IsNone, IfSome, IsTrue, MatchOption, OnOk};
+ghost use Rattle.std.specs.Iterator.{IsFinite, IsFiniteIterable};
+ghost use Rattle.std.specs.Iterator.Runs.{WholeRun};
 ghost use Rattle.arrow2_types.specs.Failures.{error_of};
 ghost use Rattle.arrow2_model.specs.Parts.{part};
 ghost use Rattle.arrow2_model.specs.Storage.{items_of};
 ghost use Rattle.arrow2_packed_bits.specs.Growth.{Appends};
+ghost use Rattle.arrow2_bitmap.specs.Iterators.{MayYieldTooMany};
 ghost use Rattle.arrow2_bitmap.specs.PackedBitmaps.{IsPacked};
 ghost use Rattle.arrow2_array.specs.Growth.{AppendsBooleans};
 ghost use Rattle.arrow2_array.specs.Items.{boolean_items, nulls};
@@ -62,7 +65,7 @@ impl MutableBooleanArray {
     ///
     /// # Errors
     ///
-    /// `OutOfMemory` alone. It never comes for a capacity of 0.
+    /// Only `OutOfMemory`. It never comes for a capacity of 0.
     pub fn with_capacity(alloc: Global, capacity: usize) -> Result<MutableBooleanArray>
         ensures ok { IfOk result (λ a. a.items ≡ []) }
         ensures capacity { IfOk result (λ a. capacity ≤ a.capacity) }
@@ -73,6 +76,51 @@ impl MutableBooleanArray {
             values: MutableBitmap::with_capacity(alloc, capacity)?,
             validity: MutableBitmap::with_capacity(alloc, capacity)?,
         })
+    }
+
+    /// Returns an array of the items of an iterator, in their order. Requires that the iterator ends, and that its
+    /// `next` may be called until then. Does not read its size hint.
+    ///
+    /// Stands for arrow2's `FromIterator`.
+    ///
+    /// # Errors
+    ///
+    /// `Overflow` or `OutOfMemory`. `Overflow` comes only if the contract of the iterator allows more than `usize::MAX`
+    /// items.
+    pub fn try_from_iter<I: IntoIterator<Item = Option<bool>>>(
+        alloc: Global,
+        iter: I,
+    ) -> Result<MutableBooleanArray>
+        requires { IsFiniteIterable I.into_iter_gives I.IntoIter.can_next I.IntoIter.remaining iter }
+        // All items of a run of the iterator.
+        ensures items { IfOk result (λ a. (it : I.IntoIter) × I.into_iter_gives iter it
+            × WholeRun I.IntoIter.next_gives it (λ p. a.items ≡ p.items)) }
+        // `Overflow` comes only where a run may have too many items.
+        ensures overflow { IsErrOf result Error.Overflow →
+            (it : I.IntoIter) × I.into_iter_gives iter it × MayYieldTooMany I.IntoIter.next_gives it }
+        ensures only { IfErr result (λ e. (e ≡ Error.Overflow) ⊎ (e ≡ Error.OutOfMemory)) }
+    {
+        MutableBooleanArray::collect_items(alloc, iter.into_iter())
+    }
+
+    /// Returns the array of the items of an iterator that ends.
+    fn collect_items<I: Iterator<Item = Option<bool>> + Drop>(
+        alloc: Global,
+        items: I,
+    ) -> Result<MutableBooleanArray>
+        requires can { I.can_next items }
+        requires ends { IsFinite (I.remaining items) }
+        ensures items { IfOk result (λ a. WholeRun I.next_gives items (λ p. a.items ≡ p.items)) }
+        ensures overflow { IsErrOf result Error.Overflow → MayYieldTooMany I.next_gives items }
+        ensures only { IfErr result (λ e. (e ≡ Error.Overflow) ⊎ (e ≡ Error.OutOfMemory)) }
+    {
+        let mut array = MutableBooleanArray::new(alloc);
+        for item in items {
+            // For the proof alone: reading the length brings the fact that a `usize` counts the items.
+            let _ = array.len();
+            array.push(item)?;
+        }
+        Ok(array)
     }
 
     /// Returns the number of items, nulls too.
@@ -101,7 +149,7 @@ impl MutableBooleanArray {
     ///
     /// # Errors
     ///
-    /// `Overflow` exactly where the length plus `additional` would pass `usize::MAX`, else `OutOfMemory` alone. After
+    /// `Overflow` exactly where the length plus `additional` would pass `usize::MAX`, else only `OutOfMemory`. After
     /// either error, the array holds the items that it held.
     pub fn reserve(&mut self, additional: usize) -> Result<()>
         // The items stay; after `Ok`, `additional` more fit.
@@ -124,7 +172,7 @@ impl MutableBooleanArray {
     ///
     /// # Errors
     ///
-    /// `Overflow` exactly where the length is `usize::MAX`, else `OutOfMemory` alone. After either error, the array
+    /// `Overflow` exactly where the length is `usize::MAX`, else only `OutOfMemory`. After either error, the array
     /// holds the items that it held.
     pub fn push(&mut self, item: Option<bool>) -> Result<()>
         ensures { AppendsBooleans result self.old self.new (item ∷ []) }
@@ -139,7 +187,7 @@ impl MutableBooleanArray {
     ///
     /// # Errors
     ///
-    /// `Overflow` exactly where the length is `usize::MAX`, else `OutOfMemory` alone. After either error, the array
+    /// `Overflow` exactly where the length is `usize::MAX`, else only `OutOfMemory`. After either error, the array
     /// holds the items that it held.
     pub fn push_null(&mut self) -> Result<()>
         ensures { AppendsBooleans result self.old self.new (None ∷ []) }
@@ -147,11 +195,57 @@ impl MutableBooleanArray {
         self.push(None)
     }
 
+    /// Appends values that are not null. Within the capacity it does not allocate, else it allocates before it writes.
+    ///
+    /// Stands for arrow2's `extend_trusted_len_values`, which takes an iterator.
+    ///
+    /// # Errors
+    ///
+    /// `Overflow` exactly where the new length would pass `usize::MAX`, else only `OutOfMemory`. After either error,
+    /// the array holds the items that it held.
+    pub fn extend_from_slice(&mut self, values: &[bool]) -> Result<()>
+        ensures { AppendsBooleans result self.old self.new (map (λ x. Some x) values.now) }
+    {
+        self.reserve(values.len())?;
+        self.validity.extend_constant(values.len(), true)?;
+        self.values.extend_from_bools(values)?;
+        Ok(())
+    }
+
+    /// Appends items. Within the capacity it does not allocate, else it allocates before it writes.
+    ///
+    /// Stands for arrow2's `extend_trusted_len`, which takes an iterator.
+    ///
+    /// # Errors
+    ///
+    /// `Overflow` exactly where the new length would pass `usize::MAX`, else only `OutOfMemory`. After either error,
+    /// the array holds the items that it held.
+    pub fn extend_from_options(&mut self, items: &[Option<bool>]) -> Result<()>
+        ensures { AppendsBooleans result self.old self.new items.now }
+    {
+        self.reserve(items.len())?;
+        for item in items {
+            self.push_within(*item);
+        }
+        Ok(())
+    }
+
+    /// Appends an item. Requires spare capacity for it.
+    fn push_within(&mut self, item: Option<bool>)
+        requires { length self.old.items < self.old.capacity }
+        ensures items { self.new.items ≡ self.old.items ++ item ∷ [] }
+        ensures capacity { self.old.capacity ≤ self.new.capacity }
+    {
+        // Within the capacity neither call allocates, so neither returns an error.
+        self.validity.push(item.is_some()).unwrap();
+        self.values.push(item.unwrap_or(false)).unwrap();
+    }
+
     /// Appends `item` `additional` times. Within the capacity it does not allocate.
     ///
     /// # Errors
     ///
-    /// `Overflow` exactly where the new length would pass `usize::MAX`, else `OutOfMemory` alone. After either error,
+    /// `Overflow` exactly where the new length would pass `usize::MAX`, else only `OutOfMemory`. After either error,
     /// the array holds the items that it held.
     pub fn extend_constant(&mut self, additional: usize, item: Option<bool>) -> Result<()>
         ensures { AppendsBooleans result self.old self.new (replicate additional item) }
@@ -168,7 +262,7 @@ impl MutableBooleanArray {
     ///
     /// # Errors
     ///
-    /// `Overflow` exactly where the new length would pass `usize::MAX`, else `OutOfMemory` alone. After either error,
+    /// `Overflow` exactly where the new length would pass `usize::MAX`, else only `OutOfMemory`. After either error,
     /// the array holds the items that it held.
     pub fn extend_from_array(
         &mut self,
@@ -201,12 +295,27 @@ impl MutableBooleanArray {
         Some(valid.then_some(value))
     }
 
+    /// Frees all capacity where there is no item. Else frees unused capacity if the allocator can; no clause states
+    /// that any is freed. The clauses are on [`MutableBooleanArray::capacity`], the lesser of the capacities for values
+    /// and for validity: none states that both fall to 0. Always returns `Ok`. arrow2 returns no `Result`.
+    pub fn shrink_to_fit(&mut self) -> Result<()>
+        ensures ok { IsOk result }
+        ensures items { self.new.items ≡ self.old.items }
+        ensures capacity { self.new.capacity ≤ self.old.capacity }
+        ensures frees { self.old.items ≡ [] → self.new.capacity ≡ 0 }
+    {
+        self.values.shrink_to_fit()?;
+        self.validity.shrink_to_fit()
+    }
+
     /// Returns the array of the items. It has a validity bitmap exactly if an item is null. The values under nulls are
     /// unspecified.
     ///
+    /// Stands for arrow2's `From<MutableBooleanArray>`.
+    ///
     /// # Errors
     ///
-    /// `OutOfMemory` alone. The items are then dropped.
+    /// Only `OutOfMemory`. The items are then dropped.
     pub fn freeze(self) -> Result<BooleanArray>
         ensures items { IfOk result (λ a. boolean_items a ≡ self.items) }
         ensures bitmap { IfOk result (λ a. IsNone a.validity.bitmap ↔ (nulls self.items ≡ 0)) }

@@ -33,7 +33,9 @@ pub fn unary_assign<T: BitChunk, F: Fn(T) -> T>(bitmap: &mut MutableBitmap, op: 
     // For every truth table `t` by which `op` computes each bit: the items are the outputs of `t`.
     ensures table { (t : ℕ) → IsBitwiseUnary T.WIDTH T.number (F.post op) t →
         bitmap.new.items ≡ each t (bitmap.old.items ∷ []) }
-    // For any `op`: the word at each index is one that `op` may return for the word of the list at this index.
+    // For any `op`: the items are the bits of words, one word after another, cut to the length. The word at each index
+    // is one that `op` may return for the word of the list at this index. `T.WIDTH` is the number of bits of a `T`, and
+    // `T.number` its value.
     ensures results { AreJoinedResults T.WIDTH (length bitmap.old.items)
         (λ j. MayReturnUnary T.number (F.post op) (word T.WIDTH bitmap.old.items j)) bitmap.new.items }
     ensures len { length bitmap.new.items ≡ length bitmap.old.items }
@@ -63,7 +65,9 @@ pub fn binary_assign<T: BitChunk, F: Fn(T, T) -> T>(lhs: &mut MutableBitmap, rhs
     // For every truth table `t` by which `op` computes each bit: the items are the outputs of `t`.
     ensures table { (t : ℕ) → IsBitwiseBinary T.WIDTH T.number (F.post op) t →
         lhs.new.items ≡ each t (lhs.old.items ∷ items_of rhs.now ∷ []) }
-    // For any `op`: the word at each index is one that `op` may return for the words of both lists at this index.
+    // For any `op`: the items are the bits of words, one word after another, cut to the length. The word at each index
+    // is one that `op` may return for the words of both lists at this index. `T.WIDTH` is the number of bits of a `T`,
+    // and `T.number` its value.
     ensures results { AreJoinedResults T.WIDTH (length lhs.old.items)
         (λ j. MayReturnBinary T.number (F.post op) (word T.WIDTH lhs.old.items j)
         (word T.WIDTH (items_of rhs.now) j)) lhs.new.items }
@@ -95,7 +99,9 @@ fn assign_chunks<T: BitChunk, I: BitChunkIterExact<T> + Drop, F: Fn(T, T) -> T>(
     // For every truth table `t` by which `op` computes each bit: the items are the outputs of `t`.
     ensures table { (t : ℕ) → IsBitwiseBinary T.WIDTH T.number (F.post op) t →
         lhs.new.items ≡ each t (lhs.old.items ∷ (I.cursor chunks).items ∷ []) }
-    // For any `op`: the word at each index is one that `op` may return for the words of both lists at this index.
+    // For any `op`: the items are the bits of words, one word after another, cut to the length. The word at each index
+    // is one that `op` may return for the words of both lists at this index. `T.WIDTH` is the number of bits of a `T`,
+    // and `T.number` its value.
     ensures results { AreJoinedResults T.WIDTH (length lhs.old.items)
         (λ j. MayReturnBinary T.number (F.post op) (word T.WIDTH lhs.old.items j)
         (word T.WIDTH (I.cursor chunks).items j)) lhs.new.items }
@@ -108,8 +114,8 @@ fn assign_chunks<T: BitChunk, I: BitChunkIterExact<T> + Drop, F: Fn(T, T) -> T>(
 /// Replaces each item by the output of the truth table `t`: bit `a` of `t`, where `a` is the item as 0 or 1. Reads only
 /// the two lowest bits of `t`. The capacity stays. Does not allocate.
 ///
-/// The type parameter `W` is not used: the call goes by 32 bytes at a time, whatever `W` is. It is there because each
-/// public function of this module has a word type.
+/// The type parameter `W` has no effect: the call processes 32 bytes at a time, whatever `W` is. The other functions of
+/// this module take a word type too.
 ///
 /// arrow2 has no such call.
 pub fn unary_assign_table<W: BitChunk>(bitmap: &mut MutableBitmap, t: u8)
@@ -123,8 +129,8 @@ pub fn unary_assign_table<W: BitChunk>(bitmap: &mut MutableBitmap, t: u8)
 /// `lhs` and `rhs` as 0 or 1. Reads only the four lowest bits of `t`. The capacity stays. Requires that both have equal
 /// lengths. Does not allocate.
 ///
-/// Goes by 32 bytes at a time where `rhs` begins at a byte boundary, else by words of `W`. The result does not depend
-/// on `W`.
+/// Processes 32 bytes at a time where `rhs` begins at a byte boundary, else words of `W`. The result does not depend on
+/// `W`.
 ///
 /// arrow2 has no such call.
 #[inline(always)]

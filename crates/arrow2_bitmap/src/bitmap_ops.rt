@@ -28,11 +28,13 @@ use std::ops::{BitAnd, BitOr, BitXor, Not};
 /// the contract of `op` allows for the input words at its index. If the contract of `op` determines each result word
 /// (as a function of the input words, or by one truth table for all bits), the clauses determine each item.
 ///
+/// The new bitmap is stored in canonical bytes, from bit 0 on.
+///
 /// arrow2 has no such call.
 ///
 /// # Errors
 ///
-/// `OutOfMemory` alone.
+/// Only `OutOfMemory`.
 pub fn from_rows<S: WordRows<u64>, F: Fn(S::Row) -> u64>(
     alloc: Global,
     len: usize,
@@ -43,9 +45,9 @@ pub fn from_rows<S: WordRows<u64>, F: Fn(S::Row) -> u64>(
     requires callable { F.IsAlwaysCallable op }
     requires same_lengths { S.same_lengths rows }
     requires len { S.len rows ≡ len }
-    // If each result of `op` has the same 64 lowest bits as the result of a mathematical function `f` for the list of
-    // the row's words: the items are the 64 lowest bits of the results of `f` for the rows, one result after another,
-    // cut to `len`. The number of a word of type `u64` is the word: `λ x. x`.
+    // If `op` computes a mathematical function `f`, that is, returns the 64 lowest bits of what `f` gives for the list
+    // of the row's words: the items are the bits of the results of `f`, row after row, cut to `len`. The number of a
+    // `u64` is the `u64` itself: `λ x. x`.
     ensures items { (f : List ℕ → ℕ) → ComputesRows 64 S.words (λ x. x) (F.post op) f →
         IfOk result (λ b. items_of b ≡ bits_of_words 64 (λ j. f (S.row_at rows j)) len) }
     // If, besides, the rows are the words of some `lists` of booleans, the first of which has `len` items: the items
@@ -62,7 +64,7 @@ pub fn from_rows<S: WordRows<u64>, F: Fn(S::Row) -> u64>(
     // may return for a row that has the same words as the row at this index.
     ensures results { IfOk result (λ b. AreJoinedResults 64 len
         (λ j. MayReturnRow 64 S.words (λ x. x) (F.post op) (S.row_at rows j)) (items_of b)) }
-    // The new bitmap is stored in canonical bytes, and the only error is `OutOfMemory`.
+    // The new bitmap has `len` items. It is stored in canonical bytes, from bit 0 on. The only error is `OutOfMemory`.
     ensures len { IfOk result (λ b. length (items_of b) ≡ len) }
     ensures storage { IfOk result (λ b. IsPacked b) }
     ensures only { IfErr result (λ e. e ≡ Error.OutOfMemory) }
@@ -83,22 +85,27 @@ pub fn from_rows<S: WordRows<u64>, F: Fn(S::Row) -> u64>(
 /// Differs from arrow2: the padding bits of the words count as false. Where no items follow the last full word, arrow2
 /// calls `op` once more, and the code here does not; no clause states this. arrow2's `unary` returns no `Result`.
 ///
+/// The new bitmap is stored in canonical bytes, from bit 0 on.
+///
 /// # Errors
 ///
-/// `OutOfMemory` alone.
+/// Only `OutOfMemory`.
 pub fn unary<F: Fn(u64) -> u64>(lhs: &Bitmap, op: F) -> Result<Bitmap>
     requires callable { F.IsAlwaysCallable op }
     // If the results of `op` are those of a mathematical function `f` on words: the items are the 64 lowest bits of the
-    // results of `f` for the words of the list, one result after another, cut to the length of the list.
+    // results of `f` for the words of the list, one result after another, cut to the length of the list. The number of
+    // a `u64` is the `u64` itself: `λ x. x`.
     ensures kernel { (f : ℕ → ℕ) → ComputesUnary 64 (λ x. x) (F.post op) f →
         IfOk result (λ b. items_of b ≡ unary_kernel 64 f (items_of lhs.now)) }
     // For every truth table `t` by which `op` computes each bit: the items are the outputs of `t`.
     ensures table { (t : ℕ) → IsBitwiseUnary 64 (λ x. x) (F.post op) t →
         IfOk result (λ b. items_of b ≡ each t (items_of lhs.now ∷ [])) }
-    // For any `op`: the word at each index is one that `op` may return for the word of the list at this index.
+    // For any `op`: the items are the bits of words, one word after another, cut to the length. The word at each index
+    // is one that `op` may return for the word of the list at this index.
     ensures results { IfOk result (λ b. AreJoinedResults 64 (length (items_of lhs.now))
         (λ j. F.post op (bitmap_word 64 lhs.now j)) (items_of b)) }
-    // The new bitmap is stored in canonical bytes, and the only error is `OutOfMemory`.
+    // The new bitmap has the length of the input. It is stored in canonical bytes, from bit 0 on. The only error is
+    // `OutOfMemory`.
     ensures len { IfOk result (λ b. length (items_of b) ≡ length (items_of lhs.now)) }
     ensures storage { IfOk result (λ b. IsPacked b) }
     ensures only { IfErr result (λ e. e ≡ Error.OutOfMemory) }
@@ -125,23 +132,28 @@ pub fn unary<F: Fn(u64) -> u64>(lhs: &Bitmap, op: F) -> Result<Bitmap>
 /// Differs from arrow2: the padding bits of the words count as false. Where no items follow the last full word, arrow2
 /// calls `op` once more, and the code here does not; no clause states this. arrow2's `binary` returns no `Result`.
 ///
+/// The new bitmap is stored in canonical bytes, from bit 0 on.
+///
 /// # Errors
 ///
-/// `OutOfMemory` alone.
+/// Only `OutOfMemory`.
 pub fn binary<F: Fn(u64, u64) -> u64>(lhs: &Bitmap, rhs: &Bitmap, op: F) -> Result<Bitmap>
     requires callable { F.IsAlwaysCallable op }
     requires same_length { length (items_of lhs.now) ≡ length (items_of rhs.now) }
     // If the results of `op` are those of a mathematical function `f` on words: the items are the 64 lowest bits of the
-    // results of `f` for the words of both lists at each index, one result after another, cut to their length.
+    // results of `f` for the words of both lists at each index, one result after another, cut to their length. The
+    // number of a `u64` is the `u64` itself: `λ x. x`.
     ensures kernel { (f : ℕ → ℕ → ℕ) → ComputesBinary 64 (λ x. x) (F.post op) f →
         IfOk result (λ b. items_of b ≡ binary_kernel 64 f (items_of lhs.now) (items_of rhs.now)) }
     // For every truth table `t` by which `op` computes each bit: the items are the outputs of `t`.
     ensures table { (t : ℕ) → IsBitwiseBinary 64 (λ x. x) (F.post op) t →
         IfOk result (λ b. items_of b ≡ each t (items_of lhs.now ∷ items_of rhs.now ∷ [])) }
-    // For any `op`: the word at each index is one that `op` may return for the words of both lists at this index.
+    // For any `op`: the items are the bits of words, one word after another, cut to the length. The word at each index
+    // is one that `op` may return for the words of both lists at this index.
     ensures results { IfOk result (λ b. AreJoinedResults 64 (length (items_of lhs.now))
         (λ j. F.post op (bitmap_word 64 lhs.now j) (bitmap_word 64 rhs.now j)) (items_of b)) }
-    // The new bitmap is stored in canonical bytes, and the only error is `OutOfMemory`.
+    // The new bitmap has the length of the input. It is stored in canonical bytes, from bit 0 on. The only error is
+    // `OutOfMemory`.
     ensures len { IfOk result (λ b. length (items_of b) ≡ length (items_of lhs.now)) }
     ensures storage { IfOk result (λ b. IsPacked b) }
     ensures only { IfErr result (λ e. e ≡ Error.OutOfMemory) }
@@ -161,7 +173,7 @@ pub fn binary<F: Fn(u64, u64) -> u64>(lhs: &Bitmap, rhs: &Bitmap, op: F) -> Resu
 }
 
 /// Returns, item by item, the output of the truth table `t`: bit `a` of `t`, where `a` is the item as 0 or 1. Reads
-/// only the two lowest bits of `t`. Goes by 32 bytes at a time where the items begin at a byte boundary, else by words
+/// only the two lowest bits of `t`. Processes 32 bytes at a time where the items begin at a byte boundary, else words
 /// of 64 bits.
 ///
 /// The new bitmap is stored in canonical bytes, from bit 0 on.
@@ -170,7 +182,7 @@ pub fn binary<F: Fn(u64, u64) -> u64>(lhs: &Bitmap, rhs: &Bitmap, op: F) -> Resu
 ///
 /// # Errors
 ///
-/// `OutOfMemory` alone.
+/// Only `OutOfMemory`.
 #[inline(always)]
 pub fn unary_table(lhs: &Bitmap, t: u8) -> Result<Bitmap>
     ensures items { IfOk result (λ b. items_of b ≡ each t (items_of lhs.now ∷ [])) }
@@ -189,8 +201,8 @@ pub fn unary_table(lhs: &Bitmap, t: u8) -> Result<Bitmap>
 }
 
 /// Returns, item by item, the output of the truth table `t`: bit `a + 2 * b` of `t`, where `a` and `b` are the items of
-/// `lhs` and `rhs` as 0 or 1. Reads only the four lowest bits of `t`. Requires that both have equal lengths. Goes by 32
-/// bytes at a time where both begin at a byte boundary, else by words of 64 bits.
+/// `lhs` and `rhs` as 0 or 1. Reads only the four lowest bits of `t`. Requires that both have equal lengths. Processes
+/// 32 bytes at a time where both begin at a byte boundary, else words of 64 bits.
 ///
 /// The new bitmap is stored in canonical bytes, from bit 0 on.
 ///
@@ -198,7 +210,7 @@ pub fn unary_table(lhs: &Bitmap, t: u8) -> Result<Bitmap>
 ///
 /// # Errors
 ///
-/// `OutOfMemory` alone.
+/// Only `OutOfMemory`.
 #[inline(always)]
 pub fn binary_table(lhs: &Bitmap, rhs: &Bitmap, t: u8) -> Result<Bitmap>
     requires same_length { length (items_of lhs.now) ≡ length (items_of rhs.now) }
@@ -225,7 +237,7 @@ pub fn binary_table(lhs: &Bitmap, rhs: &Bitmap, t: u8) -> Result<Bitmap>
 ///
 /// # Errors
 ///
-/// `OutOfMemory` alone.
+/// Only `OutOfMemory`.
 pub fn and(lhs: &Bitmap, rhs: &Bitmap) -> Result<Bitmap>
     requires same_length { length (items_of lhs.now) ≡ length (items_of rhs.now) }
     // Table 8: true only for two true items.
@@ -249,7 +261,7 @@ pub fn and(lhs: &Bitmap, rhs: &Bitmap) -> Result<Bitmap>
 ///
 /// # Errors
 ///
-/// `OutOfMemory` alone.
+/// Only `OutOfMemory`.
 pub fn or(lhs: &Bitmap, rhs: &Bitmap) -> Result<Bitmap>
     requires same_length { length (items_of lhs.now) ≡ length (items_of rhs.now) }
     // Table 14: false only for two false items.
@@ -273,7 +285,7 @@ pub fn or(lhs: &Bitmap, rhs: &Bitmap) -> Result<Bitmap>
 ///
 /// # Errors
 ///
-/// `OutOfMemory` alone.
+/// Only `OutOfMemory`.
 pub fn xor(lhs: &Bitmap, rhs: &Bitmap) -> Result<Bitmap>
     requires same_length { length (items_of lhs.now) ≡ length (items_of rhs.now) }
     // Table 6: true where the two items differ.
@@ -340,7 +352,7 @@ impl<'a, 'b> BitXor<&'b Bitmap> for &'a Bitmap {
 ///
 /// # Errors
 ///
-/// `OutOfMemory` alone.
+/// Only `OutOfMemory`.
 impl<'a> Not for &'a Bitmap {
     type Output = Result<Bitmap>;
 

@@ -82,7 +82,7 @@ impl Bitmap {
     ///
     /// # Errors
     ///
-    /// `OutOfMemory` alone.
+    /// Only `OutOfMemory`.
     pub fn new(alloc: Global) -> Result<Bitmap>
         ensures items { IfOk result (λ b. items_of b ≡ []) }
         ensures storage { IfOk result (λ b. b ≡ record { bytes = []; offset = 0; len = 0 }) }
@@ -121,7 +121,7 @@ impl Bitmap {
     ///
     /// # Errors
     ///
-    /// `OutOfMemory` alone. The bytes are then dropped.
+    /// Only `OutOfMemory`. The bytes are then dropped.
     pub fn from_u8_vec(bytes: Vec<u8>, len: usize) -> Result<Bitmap>
         requires inside { len ≤ 8 * vec_len bytes }
         ensures ok { IfOk result (λ b. b ≡ record {
@@ -168,7 +168,7 @@ impl Bitmap {
     ///
     /// # Errors
     ///
-    /// `OutOfMemory` alone.
+    /// Only `OutOfMemory`.
     pub fn from_u8_slice(alloc: Global, bytes: &[u8], len: usize) -> Result<Bitmap>
         requires inside { len ≤ 8 * length bytes.now }
         ensures ok { IfOk result (λ b. b ≡ record { bytes = bytes.now; offset = 0; len = len }) }
@@ -183,7 +183,7 @@ impl Bitmap {
     ///
     /// # Errors
     ///
-    /// `OutOfMemory` alone.
+    /// Only `OutOfMemory`.
     pub fn new_zeroed(alloc: Global, len: usize) -> Result<Bitmap>
         ensures items { IfOk result (λ b. items_of b ≡ replicate len false) }
         ensures storage { IfOk result (λ b. b ≡ record {
@@ -203,7 +203,7 @@ impl Bitmap {
     ///
     /// # Errors
     ///
-    /// `OutOfMemory` alone.
+    /// Only `OutOfMemory`.
     pub fn from_bools(alloc: Global, items: &[bool]) -> Result<Bitmap>
         ensures items { IfOk result (λ b. items_of b ≡ items.now) }
         ensures storage { IfOk result (λ b. b ≡ packed_storage items.now) }
@@ -225,7 +225,8 @@ impl Bitmap {
     /// items.
     pub fn try_from_iter<I: IntoIterator<Item = bool>>(alloc: Global, iter: I) -> Result<Bitmap>
         requires { IsFiniteIterable I.into_iter_gives I.IntoIter.can_next I.IntoIter.remaining iter }
-        // The items are a whole sequence, from first to last, that the contract of the iterator allows it to yield.
+        // `it` is an iterator that `iter` may turn into, and `p` a run of it: calls of `next` up to the first `None`.
+        // The items are those of `p`.
         ensures items { IfOk result (λ b. (it : I.IntoIter) × I.into_iter_gives iter it
             × WholeRun I.IntoIter.next_gives it (λ p. items_of b ≡ p.items)) }
         ensures storage { IfOk result (λ b. IsPacked b) }
@@ -240,12 +241,12 @@ impl Bitmap {
 
     /// Returns the bitmap of the results of `f` for each number below `len`, in order.
     ///
-    /// Packs 64 results at a time. Requires that `f` may be called with each of these numbers. arrow2 has no such call:
-    /// it collects an iterator.
+    /// Packs 64 results at a time. The bitmap is stored in canonical bytes, from bit 0 on. Requires that `f` may be
+    /// called with each of these numbers. arrow2 has no such call: it collects an iterator.
     ///
     /// # Errors
     ///
-    /// `OutOfMemory` alone.
+    /// Only `OutOfMemory`.
     pub fn try_from_fn<F: Fn(usize) -> bool>(alloc: Global, len: usize, f: F) -> Result<Bitmap>
         requires callable { (index : ℕ) → index < len → F.pre f index }
         // If the results of `f` are those of a mathematical function `test`:
@@ -254,7 +255,8 @@ impl Bitmap {
         // For any `f`: each item is a result that the contract of `f` allows at its index.
         ensures results { IfOk result (λ b. (index : ℕ) → index < len →
             F.post f index (slice_index_or (items_of b) index false)) }
-        // The new bitmap is stored in canonical bytes, and the only error is `OutOfMemory`.
+        // There is one item for each result. The bitmap is stored in canonical bytes, from bit 0 on. The only error is
+        // `OutOfMemory`.
         ensures len { IfOk result (λ b. length (items_of b) ≡ len) }
         ensures storage { IfOk result (λ b. IsPacked b) }
         ensures only { IfErr result (λ e. e ≡ Error.OutOfMemory) }
@@ -265,12 +267,12 @@ impl Bitmap {
 
     /// Returns the bitmap of the results of `f` for each item of a slice, in order. `f` is a comparison, for example.
     ///
-    /// Packs 64 results at a time. Requires that `f` may be called with each item. arrow2 has no such call: it collects
-    /// an iterator.
+    /// Packs 64 results at a time. The bitmap is stored in canonical bytes, from bit 0 on. Requires that `f` may be
+    /// called with each item. arrow2 has no such call: it collects an iterator.
     ///
     /// # Errors
     ///
-    /// `OutOfMemory` alone.
+    /// Only `OutOfMemory`.
     pub fn from_slice_with<T, F: Fn(&T) -> bool>(alloc: Global, items: &[T], f: F) -> Result<Bitmap>
         requires callable { IsCallableWithEach items.now (F.pre f) }
         // If the results of `f` are those of a mathematical function `test`:
@@ -279,7 +281,8 @@ impl Bitmap {
         // For any `f`: each item is a result that the contract of `f` allows at its index.
         ensures results { IfOk result (λ b. (index : ℕ) → index < length items.now →
             IsResultAt items.now (F.post f) index (slice_index_or (items_of b) index false)) }
-        // The new bitmap is stored in canonical bytes, and the only error is `OutOfMemory`.
+        // There is one item for each result. The bitmap is stored in canonical bytes, from bit 0 on. The only error is
+        // `OutOfMemory`.
         ensures len { IfOk result (λ b. length (items_of b) ≡ length items.now) }
         ensures storage { IfOk result (λ b. IsPacked b) }
         ensures only { IfErr result (λ e. e ≡ Error.OutOfMemory) }
@@ -297,12 +300,12 @@ impl Bitmap {
 
     /// Returns the bitmap of the results of `f` for the two items at each index of two slices, in order.
     ///
-    /// Packs 64 results at a time. Requires equal lengths, and that `f` may be called with each pair. arrow2 has no
-    /// such call: it collects an iterator.
+    /// Packs 64 results at a time. The bitmap is stored in canonical bytes, from bit 0 on. Requires equal lengths, and
+    /// that `f` may be called with each pair. arrow2 has no such call: it collects an iterator.
     ///
     /// # Errors
     ///
-    /// `OutOfMemory` alone.
+    /// Only `OutOfMemory`.
     pub fn from_slices_with<S, T, F: Fn(&S, &T) -> bool>(
         alloc: Global,
         left: &[S],
@@ -318,7 +321,8 @@ impl Bitmap {
         ensures results { IfOk result (λ b. (index : ℕ) → index < length left.now →
             IsPairResultAt left.now right.now (F.post f) index
             (slice_index_or (items_of b) index false)) }
-        // The new bitmap is stored in canonical bytes, and the only error is `OutOfMemory`.
+        // There is one item for each result. The bitmap is stored in canonical bytes, from bit 0 on. The only error is
+        // `OutOfMemory`.
         ensures len { IfOk result (λ b. length (items_of b) ≡ length left.now) }
         ensures storage { IfOk result (λ b. IsPacked b) }
         ensures only { IfErr result (λ e. e ≡ Error.OutOfMemory) }
@@ -346,7 +350,7 @@ impl Bitmap {
     ///
     /// arrow2 has no such call, since its calls take no allocator.
     pub fn allocator(&self) -> Global
-        // There is one `Global` only.
+        // `Global` has one value only, so the result equals each `Global`. The clause states nothing more.
         ensures { (other : Global) → result ≡ other }
     {
         self.bytes.allocator()
@@ -359,7 +363,7 @@ impl Bitmap {
         self.len() == 0
     }
 
-    /// Returns an iterator over the items, from both ends.
+    /// Returns a double-ended iterator over the items.
     pub fn iter(&self) -> BitmapIter<'_>
         ensures items { result ≡ items_of self.now }
         // `fits` holds for every `Bitmap`: a `usize` counts its items.
@@ -410,12 +414,14 @@ impl Bitmap {
         )
     }
 
-    /// Returns an iterator over the items by words of `T`, from the first item on.
+    /// Returns an iterator over the full words of `T`. The first item of a word is its lowest bit.
     ///
-    /// In the contract, `spill` is the word that `remainder` returns. From its lowest bit on it has the items after the
-    /// full words, then stored bits that are no items, then zeros. The stored bits end with the byte of the last item
-    /// or, where the bitmap has no full word, with the last byte of the storage. Bits above the width of the word are
-    /// left out.
+    /// The word that `remainder` returns has the items after the full words. Its bits above these items are not
+    /// cleared: mask it to `remainder_len` bits.
+    ///
+    /// In the contract, `spill` is this word, with the bits that are not cleared: from its lowest bit on the items
+    /// after the full words, then stored bits that are no items, then zeros. The stored bits end with the byte of the
+    /// last item or, where the bitmap has no full word, with the last byte of the storage.
     pub fn chunks<T: BitChunk>(&self) -> BitChunks<'_, T>
         ensures items { result.items ≡ items_of self.now }
         ensures fits { length (items_of self.now) < 2 ^ 64 }
@@ -425,7 +431,7 @@ impl Bitmap {
         BitChunks::new(self.bytes.as_slice(), self.offset, self.length)
     }
 
-    /// Returns the number of unset bits. It is stored, so the code reads no bits, which no clause states.
+    /// Returns the number of unset bits. The number is stored: the call reads no bits. No clause states this.
     pub fn unset_bits(&self) -> usize
         ensures { result ≡ falses (items_of self.now) }
     {
@@ -475,10 +481,14 @@ impl Bitmap {
         self.slice_counted(offset, len, &mut Reads::new());
     }
 
-    /// Slices as [`Bitmap::slice`] does, and adds to `reads` the number of bytes that it reads to count the false items
-    /// of the slice. It is proved that the number added is `slice_reads` of four numbers: the bit offset and the length
-    /// before the call, `offset` and `len`. It is also proved to be at most `L / 16 + 4`, where `L` is the length
-    /// before the call. No clause states that every byte that the call reads is included.
+    /// Slices as [`Bitmap::slice`] does. Adds to `reads` the number of bytes that it reads to count the false items of
+    /// the slice. Where `L` is the length before the call, this number (`slice_reads`) is:
+    ///
+    /// - 0 where `len` is `L`,
+    /// - the number of bytes that hold the slice where `len` is below `L / 2`,
+    /// - else the number of bytes that hold the items before the slice, plus that of the items after it.
+    ///
+    /// It is at most `L / 16 + 4`. No clause states that every byte that the call reads is counted.
     ///
     /// arrow2 counts no reads.
     pub fn slice_counted(&mut self, offset: usize, len: usize, reads: &mut Reads)
@@ -541,7 +551,8 @@ impl Bitmap {
     }
 
     /// Returns `Right` of a bitmap that can be changed in place, if the items begin at bit 0 and nobody shares the
-    /// bytes. Otherwise returns `Left` of the bitmap as it was. Does not allocate.
+    /// bytes. Otherwise returns `Left` of the bitmap as it was. Does not allocate. No clause states the capacity of
+    /// `Right`.
     ///
     /// It is proved that `Left` has the bitmap as it was, and that `Right` has the same items and comes only where they
     /// begin at bit 0. No clause is on sharing: it is not proved that `Right` comes only if nobody shares the bytes,
@@ -576,7 +587,7 @@ impl Bitmap {
     ///
     /// # Errors
     ///
-    /// `OutOfMemory` alone. The bitmap is then dropped.
+    /// Only `OutOfMemory`. The bitmap is then dropped.
     pub fn make_mut(self) -> Result<MutableBitmap>
         ensures ok { IfOk result (λ m. m.items ≡ items_of self) }
         ensures only { IfErr result (λ e. e ≡ Error.OutOfMemory) }

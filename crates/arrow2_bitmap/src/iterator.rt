@@ -8,7 +8,7 @@ use crate::immutable::Bitmap;
 use std::alloc::AllocError;
 use std::marker::Model;
 
-/// An iterator over the items of a [`Bitmap`], from both ends: contracts see the list of the items still to come.
+/// A double-ended iterator over the items of a [`Bitmap`]: contracts see the list of the items still to come.
 ///
 /// Differs from arrow2, whose iterator has an `nth` of its own: here the standard library's `nth` calls `next`
 /// repeatedly.

@@ -12,8 +12,9 @@ pub fn bytes_tell_growing_bitmaps_apart()
         (m.items ≡ n.items) ↔ (canonical_bytes m.items ≡ canonical_bytes n.items) }
 {}
 
-/// A bitmap that is stored as `packed_storage` of the items of a growing one, as `TryFrom` stores it, has these items.
-/// Two growing bitmaps have equal items exactly if the `packed_storage`s of their items are equal.
+/// Freezing keeps the items: a bitmap that is stored as `packed_storage` of a list, as `TryFrom` stores it, has the
+/// items of that list. Two growing bitmaps have equal items exactly if their frozen bitmaps are equal in bytes, bit
+/// offset and length.
 #[tactic(auto, using(crate::proofs::Bytes::canonical))]
 pub fn equal_items_freeze_to_equal_bytes()
     ensures items { (m : GrowingBitmap) (a : BitmapStorage) →

@@ -73,8 +73,9 @@ impl MutableBitmap {
     }
 
     /// Returns a bitmap of the first `len` bits of `bytes`, over the same vector. Cuts spare bytes off and clears
-    /// padding bits. The capacity is eight times that of the vector, at most `usize::MAX`. Does not allocate where the
-    /// bytes have at least `len` bits. In arrow2 spare bytes stay, and `push` may write into the wrong byte.
+    /// padding bits. The capacity is eight times that of the vector, or `usize::MAX` where that is less. Does not
+    /// allocate where the bytes have at least `len` bits. In arrow2 spare bytes stay, and `push` may write into the
+    /// wrong byte.
     ///
     /// # Errors
     ///
@@ -93,9 +94,9 @@ impl MutableBitmap {
     }
 
     /// Returns a bitmap of the first `len` bits of `bytes`, over the same vector. Cuts spare bytes off and clears
-    /// padding bits. The capacity is eight times that of the vector, at most `usize::MAX`. Requires `len` to be at most
-    /// eight times the number of bytes. Does not allocate. In arrow2 spare bytes stay, and `push` may write into the
-    /// wrong byte.
+    /// padding bits. The capacity is eight times that of the vector, or `usize::MAX` where that is less. Requires `len`
+    /// to be at most eight times the number of bytes. Does not allocate. In arrow2 spare bytes stay, and `push` may
+    /// write into the wrong byte.
     pub fn from_vec(bytes: Vec<u8>, len: usize) -> MutableBitmap
         requires inside { len ≤ 8 * vec_len bytes }
         ensures items { result.items ≡ take len (bits bytes.items) }
@@ -112,7 +113,7 @@ impl MutableBitmap {
     ///
     /// # Errors
     ///
-    /// `OutOfMemory` alone. It never comes for a capacity of 0.
+    /// Only `OutOfMemory`. It never comes for a capacity of 0.
     pub fn with_capacity(alloc: Global, capacity: usize) -> Result<MutableBitmap>
         ensures ok { IfOk result (λ m. m.items ≡ []) }
         ensures capacity { IfOk result (λ m. capacity ≤ m.capacity) }
@@ -127,7 +128,7 @@ impl MutableBitmap {
     ///
     /// # Errors
     ///
-    /// `OutOfMemory` alone.
+    /// Only `OutOfMemory`.
     #[tactic(auto, using(arrow2_packed_bits::proofs::ConstantBytes::filling))]
     pub fn from_len_zeroed(alloc: Global, len: usize) -> Result<MutableBitmap>
         ensures ok { IfOk result (λ m. m.items ≡ replicate len false) }
@@ -141,7 +142,7 @@ impl MutableBitmap {
     ///
     /// # Errors
     ///
-    /// `OutOfMemory` alone.
+    /// Only `OutOfMemory`.
     #[tactic(auto, using(arrow2_packed_bits::proofs::ConstantBytes::filling))]
     pub fn from_len_set(alloc: Global, len: usize) -> Result<MutableBitmap>
         ensures ok { IfOk result (λ m. m.items ≡ replicate len true) }
@@ -165,7 +166,8 @@ impl MutableBitmap {
         iter: I,
     ) -> Result<MutableBitmap>
         requires { IsFiniteIterable I.into_iter_gives I.IntoIter.can_next I.IntoIter.remaining iter }
-        // The items are a whole sequence, from first to last, that the contract of the iterator allows it to yield.
+        // `it` is an iterator that `iter` may turn into, and `p` a run of it: calls of `next` up to the first `None`.
+        // The items are those of `p`.
         ensures items { IfOk result (λ m. (it : I.IntoIter) × I.into_iter_gives iter it
             × WholeRun I.IntoIter.next_gives it (λ p. m.items ≡ p.items)) }
         ensures fits { IfOk result (λ m. length m.items < 2 ^ 64) }
@@ -184,7 +186,7 @@ impl MutableBitmap {
     ///
     /// # Errors
     ///
-    /// `OutOfMemory` alone.
+    /// Only `OutOfMemory`.
     pub fn from_bools(alloc: Global, items: &[bool]) -> Result<MutableBitmap>
         ensures ok { IfOk result (λ m. m.items ≡ items.now) }
         ensures only { IfErr result (λ e. e ≡ Error.OutOfMemory) }
@@ -192,11 +194,12 @@ impl MutableBitmap {
         Ok(MutableBitmap::from_vec(pack_bits(alloc, items)?, items.len()))
     }
 
-    /// Appends one item. Below the capacity it does not allocate. arrow2 returns no `Result`, and its length may wrap.
+    /// Appends one item. Does not allocate where the length is below the capacity. arrow2 returns no `Result`, and its
+    /// length may wrap.
     ///
     /// # Errors
     ///
-    /// `Overflow` exactly where the length is `usize::MAX`. Else `OutOfMemory` alone, and only where the new length
+    /// `Overflow` exactly where the length is `usize::MAX`. Else only `OutOfMemory`, and only where the new length
     /// passes the capacity. After either error, the bitmap holds the items that it held. The capacity never falls.
     pub fn push(&mut self, value: bool) -> Result<()>
         ensures { Appends error_of result self.old self.new (value ∷ []) }
@@ -210,7 +213,7 @@ impl MutableBitmap {
     ///
     /// # Errors
     ///
-    /// `Overflow` exactly where the new length would pass `usize::MAX`. Else `OutOfMemory` alone, and only where the
+    /// `Overflow` exactly where the new length would pass `usize::MAX`. Else only `OutOfMemory`, and only where the
     /// new length passes the capacity. After either error, the bitmap holds the items that it held. The capacity never
     /// falls.
     pub fn extend_constant(&mut self, additional: usize, value: bool) -> Result<()>
@@ -226,7 +229,7 @@ impl MutableBitmap {
     ///
     /// # Errors
     ///
-    /// `Overflow` exactly where the new length would pass `usize::MAX`. Else `OutOfMemory` alone, and only where the
+    /// `Overflow` exactly where the new length would pass `usize::MAX`. Else only `OutOfMemory`, and only where the
     /// new length passes the capacity. After either error, the bitmap holds the items that it held. The capacity never
     /// falls.
     pub fn extend_from_slice(&mut self, slice: &[u8], offset: usize, len: usize) -> Result<()>
@@ -242,7 +245,7 @@ impl MutableBitmap {
     ///
     /// # Errors
     ///
-    /// `Overflow` exactly where the new length would pass `usize::MAX`. Else `OutOfMemory` alone, and only where the
+    /// `Overflow` exactly where the new length would pass `usize::MAX`. Else only `OutOfMemory`, and only where the
     /// new length passes the capacity. After either error, the bitmap holds the items that it held. The capacity never
     /// falls.
     pub fn extend_from_bools(&mut self, items: &[bool]) -> Result<()>
@@ -257,7 +260,7 @@ impl MutableBitmap {
     ///
     /// # Errors
     ///
-    /// `Overflow` exactly where the new length would pass `usize::MAX`. Else `OutOfMemory` alone, and only where the
+    /// `Overflow` exactly where the new length would pass `usize::MAX`. Else only `OutOfMemory`, and only where the
     /// new length passes the capacity. After either error, the bitmap holds the items that it held. The capacity never
     /// falls.
     pub fn extend_from_bitmap(&mut self, bitmap: &Bitmap) -> Result<()>
@@ -272,9 +275,9 @@ impl MutableBitmap {
     ///
     /// # Errors
     ///
-    /// `Overflow` exactly where the length plus `additional` would pass `usize::MAX`. Else `OutOfMemory` alone, and
+    /// `Overflow` exactly where the length plus `additional` would pass `usize::MAX`. Else only `OutOfMemory`, and
     /// only where the length plus `additional` passes the capacity. After either error, the bitmap holds the items that
-    /// it held.
+    /// it held. The capacity never falls.
     pub fn reserve(&mut self, additional: usize) -> Result<()>
         // The items stay; after `Ok`, `additional` more fit. `within_capacity` holds for every `MutableBitmap`: the
         // length is at most the capacity.
@@ -313,7 +316,7 @@ impl MutableBitmap {
     ///
     /// # Errors
     ///
-    /// `OutOfMemory` alone, and only where an item is false. The items are then dropped.
+    /// Only `OutOfMemory`, and only where an item is false. The items are then dropped.
     pub fn into_validity(self) -> Result<Option<Bitmap>>
         ensures none { IfOk result (λ validity. IsNone validity ↔ (falses self.items ≡ 0)) }
         ensures items { IfOk result (λ validity. IfSome validity (λ b. items_of b ≡ self.items)) }
@@ -369,7 +372,7 @@ impl MutableBitmap {
         self.bits.clear();
     }
 
-    /// Returns an iterator over the items, from both ends.
+    /// Returns a double-ended iterator over the items.
     pub fn iter(&self) -> BitmapIter<'_>
         ensures items { result ≡ self.now.items }
         // `fits` holds for every `MutableBitmap`: a `usize` counts its items.
@@ -378,7 +381,7 @@ impl MutableBitmap {
         BitmapIter::within(self.as_slice(), 0, self.len())
     }
 
-    /// Returns the capacity in items, at most `usize::MAX`. arrow2's capacity may wrap.
+    /// Returns the capacity in items, or `usize::MAX` where the exact number is above it. arrow2's capacity may wrap.
     pub fn capacity(&self) -> usize
         ensures capacity { result ≡ self.now.capacity }
         ensures within_capacity { length self.now.items ≤ result }
@@ -397,7 +400,7 @@ impl MutableBitmap {
     ///
     /// arrow2 has no such call, since its calls take no allocator.
     pub fn allocator(&self) -> Global
-        // There is one `Global` only.
+        // `Global` has one value only, so the result equals each `Global`. The clause states nothing more.
         ensures { (other : Global) → result ≡ other }
     {
         self.bits.allocator()

@@ -288,7 +288,7 @@ impl<T: Drop> Buffer<T> {
     /// Returns a buffer of the items of an iterator, in order. Requires that the iterator ends, and that its `next` may
     /// be called until then. Does not read the size hint.
     ///
-    /// Replaces arrow2's `FromIterator`.
+    /// Stands for arrow2's `FromIterator`.
     ///
     /// # Errors
     ///

@@ -13,8 +13,8 @@ ghost use Rattle.arrow2_walks.specs.Selections.{non_null_values};
 use crate::binary::Binary;
 use arrow2_array::BooleanArray;
 
-/// Returns the bytes of the least of the items that are not null, by the order of comparisons, or `None` where each item
-/// is null. Does not allocate.
+/// Returns the bytes of the least of the items that are not null, or `None` where each item is null. The order is that
+/// of [`crate::comparison::binary`]: the first bytes that differ decide, else the lengths. Does not allocate.
 ///
 /// Stands for arrow2's `min_binary` and `min_string`.
 pub fn min_binary<A: Binary>(array: &A) -> Option<&[u8]>
@@ -24,8 +24,8 @@ pub fn min_binary<A: Binary>(array: &A) -> Option<&[u8]>
     best_item::<A, Lesser>(array)
 }
 
-/// Returns the bytes of the greatest of the items that are not null, by the order of comparisons, or `None` where each
-/// item is null. Does not allocate.
+/// Returns the bytes of the greatest of the items that are not null, or `None` where each item is null. The order is
+/// that of [`crate::comparison::binary`]: the first bytes that differ decide, else the lengths. Does not allocate.
 ///
 /// Stands for arrow2's `max_binary` and `max_string`.
 pub fn max_binary<A: Binary>(array: &A) -> Option<&[u8]>

@@ -56,7 +56,7 @@ pub trait Binary: Nullable + Drop {
     ///
     /// # Errors
     ///
-    /// `OutOfMemory` alone.
+    /// Only `OutOfMemory`.
     fn without_validity(&self) -> Result<Self>
         ensures value { IfOk result (λ a. parts a ≡ with_bitmap (parts self.now) None) }
         ensures only { IfErr result (λ e. e ≡ Error.OutOfMemory) };
@@ -72,7 +72,7 @@ pub trait Binary: Nullable + Drop {
     ///
     /// # Errors
     ///
-    /// `OutOfMemory` alone.
+    /// Only `OutOfMemory`.
     fn like(&self, capacity: usize) -> Result<Self::Growing>
         requires few { capacity ≤ length (binary_items (parts self.now)) }
         ensures items { IfOk result (λ a. ((growing a).items ≡ []) × ((growing a).bytes ≡ 0)) }
@@ -118,7 +118,7 @@ pub trait Binary: Nullable + Drop {
     ///
     /// # Errors
     ///
-    /// `OutOfMemory` alone. The items are then dropped.
+    /// Only `OutOfMemory`. The items are then dropped.
     fn freeze(grown: Self::Growing) -> Result<Self>
         ensures items { IfOk result (λ a. binary_items (parts a) ≡ (growing grown).items) }
         ensures data_type { IfOk result (λ a. (parts a).data_type ≡ (growing grown).data_type) }

@@ -92,9 +92,11 @@ impl<O: Offset> Nullable for Utf8Array<O> {
 
 /// Returns, item by item, whether the item is null. The result has no nulls.
 ///
+/// Differs from arrow2, which takes a `dyn Array`.
+///
 /// # Errors
 ///
-/// `OutOfMemory` alone.
+/// Only `OutOfMemory`.
 pub fn is_null<A: Nullable>(array: &A) -> Result<BooleanArray>
     ensures items { IfOk result (λ a. boolean_items a ≡ map (λ known. Some (not known)) (A.known array.now)) }
     ensures validity { IfOk result (λ a. IsNone a.validity.bitmap) }
@@ -107,9 +109,11 @@ pub fn is_null<A: Nullable>(array: &A) -> Result<BooleanArray>
 /// Returns, item by item, whether the item is not null. The result has no nulls. Where the array has a validity bitmap,
 /// the values of the result are a clone of this bitmap.
 ///
+/// Differs from arrow2, which takes a `dyn Array`.
+///
 /// # Errors
 ///
-/// `OutOfMemory` alone.
+/// Only `OutOfMemory`.
 pub fn is_not_null<A: Nullable>(array: &A) -> Result<BooleanArray>
     ensures items { IfOk result (λ a. boolean_items a ≡ map (λ known. Some known) (A.known array.now)) }
     ensures values { IfSome (A.stored array.now).bitmap (λ bitmap. IfOk result (λ a. a.values ≡ bitmap)) }

@@ -14,6 +14,7 @@ use arrow2_primitive::{MutablePrimitiveArray, PrimitiveArray};
 use arrow2_types::{Error, NativeType, Result};
 
 /// Returns the items of `first` and then of each of `others`, one after the other, with the logical type of `first`.
+/// The result has a validity bitmap exactly if an item of it is null.
 ///
 /// Differs from arrow2: the first array is a parameter of its own, so there is at least one. Logical types are not
 /// compared.
@@ -46,7 +47,7 @@ pub fn concatenate<T: NativeType>(
 /// Returns the byte strings or texts of `first` and then of each of `others`, one after the other, with the logical
 /// type of `first`. The result has a validity bitmap exactly if an item of it is null.
 ///
-/// In arrow2 it is `concatenate`.
+/// In arrow2 it is `concatenate`. Here the logical types are not compared.
 ///
 /// # Errors
 ///
@@ -78,7 +79,8 @@ pub fn concatenate_binary<A: Binary>(first: &A, others: &[&A]) -> Result<A>
     A::freeze(joined)
 }
 
-/// Returns the booleans of `first` and then of each of `others`, one after the other.
+/// Returns the booleans of `first` and then of each of `others`, one after the other. The result has a validity bitmap
+/// exactly if an item of it is null.
 ///
 /// In arrow2 it is `concatenate`.
 ///

@@ -27,13 +27,14 @@ use arrow2_walks::{SlicesIterator, laws};
 use std::alloc::AllocError;
 use std::convert::TryFrom;
 
-/// Returns the items at whose index the mask is true. Requires that both have equal lengths.
+/// Returns the items at whose index the mask is true. The result has the logical type of `array`, and a validity bitmap
+/// exactly if `array` has one. Requires that both have equal lengths.
 ///
 /// Differs from arrow2: the mask is a bitmap, which has no nulls.
 ///
 /// # Errors
 ///
-/// `OutOfMemory` alone.
+/// Only `OutOfMemory`.
 pub fn filter<T: NativeType>(array: &PrimitiveArray<T>, mask: &Bitmap) -> Result<PrimitiveArray<T>>
     requires same_length { length (items_of mask.now) ≡ length (primitive_items array.now) }
     ensures items { IfOk result (λ a.
@@ -139,14 +140,14 @@ fn push_bits(kept: &mut MutableBitmap, block: u64, word: u64) -> Result<()>
     Ok(())
 }
 
-/// Returns the items at whose index the mask is `Some(true)`: a null of the mask counts as false. Requires that both
-/// have equal lengths.
+/// Returns the items at whose index the mask is `Some(true)`: a null of the mask counts as false. The result has the
+/// logical type of `array`, and a validity bitmap exactly if `array` has one. Requires that both have equal lengths.
 ///
 /// In arrow2 it is `filter`.
 ///
 /// # Errors
 ///
-/// `OutOfMemory` alone.
+/// Only `OutOfMemory`.
 pub fn filter_by_array<T: NativeType>(
     array: &PrimitiveArray<T>,
     mask: &BooleanArray,
@@ -172,14 +173,15 @@ fn true_items(mask: &BooleanArray) -> Result<Bitmap>
     }
 }
 
-/// Returns the byte strings or texts at whose index the mask is true. The result has a validity bitmap exactly if an
-/// item of it is null. Requires that both have equal lengths.
+/// Returns the byte strings or texts at whose index the mask is true. The result has the logical type of `array`, and a
+/// validity bitmap exactly if an item of it is null. It stores no bytes outside its slots. Requires that both have
+/// equal lengths.
 ///
 /// In arrow2 it is `filter`, whose mask is a boolean array.
 ///
 /// # Errors
 ///
-/// `OutOfMemory` alone.
+/// Only `OutOfMemory`.
 pub fn filter_binary<A: Binary>(array: &A, mask: &Bitmap) -> Result<A>
     requires same_length { length (items_of mask.now) ≡ length (binary_items (A.parts array.now)) }
     ensures items { IfOk result (λ a. binary_items (A.parts a)
@@ -199,13 +201,14 @@ pub fn filter_binary<A: Binary>(array: &A, mask: &Bitmap) -> Result<A>
 }
 
 /// Returns the byte strings or texts at whose index the mask is `Some(true)`: a null of the mask counts as false. The
-/// result has a validity bitmap exactly if an item of it is null. Requires that both have equal lengths.
+/// result has the logical type of `array`, and a validity bitmap exactly if an item of it is null. It stores no bytes
+/// outside its slots. Requires that both have equal lengths.
 ///
 /// In arrow2 it is `filter`.
 ///
 /// # Errors
 ///
-/// `OutOfMemory` alone.
+/// Only `OutOfMemory`.
 pub fn filter_binary_by_array<A: Binary>(array: &A, mask: &BooleanArray) -> Result<A>
     requires same_length { length (boolean_items mask.now) ≡ length (binary_items (A.parts array.now)) }
     ensures items { IfOk result (λ a. binary_items (A.parts a)
@@ -241,13 +244,14 @@ fn selected_slots<A: Binary>(array: &A, mask: &Bitmap) -> Result<A>
     A::freeze(kept)
 }
 
-/// Returns the booleans at whose index the mask is true. Requires that both have equal lengths.
+/// Returns the booleans at whose index the mask is true. The result has a validity bitmap exactly if `array` has one.
+/// Requires that both have equal lengths.
 ///
 /// In arrow2 it is `filter`, whose mask is a boolean array.
 ///
 /// # Errors
 ///
-/// `OutOfMemory` alone.
+/// Only `OutOfMemory`.
 pub fn filter_boolean(array: &BooleanArray, mask: &Bitmap) -> Result<BooleanArray>
     requires same_length { length (items_of mask.now) ≡ length (boolean_items array.now) }
     ensures items { IfOk result (λ a.
@@ -260,14 +264,14 @@ pub fn filter_boolean(array: &BooleanArray, mask: &Bitmap) -> Result<BooleanArra
     Ok(BooleanArray::from_parts(values, validity))
 }
 
-/// Returns the booleans at whose index the mask is `Some(true)`: a null of the mask counts as false. Requires that both
-/// have equal lengths.
+/// Returns the booleans at whose index the mask is `Some(true)`: a null of the mask counts as false. The result has a
+/// validity bitmap exactly if `array` has one. Requires that both have equal lengths.
 ///
 /// In arrow2 it is `filter`.
 ///
 /// # Errors
 ///
-/// `OutOfMemory` alone.
+/// Only `OutOfMemory`.
 pub fn filter_boolean_by_array(array: &BooleanArray, mask: &BooleanArray) -> Result<BooleanArray>
     requires same_length { length (boolean_items mask.now) ≡ length (boolean_items array.now) }
     ensures items { IfOk result (λ a. boolean_items a

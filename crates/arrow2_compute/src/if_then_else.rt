@@ -21,13 +21,14 @@ use std::alloc::AllocError;
 use std::convert::TryFrom;
 
 /// Returns, index by index, the item of `lhs` where the mask is true, and that of `rhs` elsewhere, with the logical
-/// type of `lhs`. Requires that all three have equal lengths.
+/// type of `lhs`. The result has a validity bitmap exactly if `lhs` or `rhs` has one. Requires that all three have
+/// equal lengths.
 ///
 /// Differs from arrow2: the mask is a bitmap, which has no nulls, and the logical types are not compared.
 ///
 /// # Errors
 ///
-/// `OutOfMemory` alone.
+/// Only `OutOfMemory`.
 pub fn if_then_else<T: NativeType>(
     mask: &Bitmap,
     lhs: &PrimitiveArray<T>,
@@ -123,7 +124,7 @@ fn chosen_bits(mask: &Bitmap, lhs: &Bitmap, rhs: &Bitmap) -> Result<Bitmap>
 /// the logical type of `lhs`. The result has a validity bitmap exactly if an item of it is null. Requires that all
 /// three have equal lengths.
 ///
-/// In arrow2 it is `if_then_else`, whose mask is a boolean array.
+/// In arrow2 it is `if_then_else`, whose mask is a boolean array. Here the logical types are not compared.
 ///
 /// # Errors
 ///
@@ -176,14 +177,14 @@ fn push_either<A: Binary>(
     }
 }
 
-/// Returns, index by index, the boolean of `lhs` where the mask is true, and that of `rhs` elsewhere. Requires that all
-/// three have equal lengths.
+/// Returns, index by index, the boolean of `lhs` where the mask is true, and that of `rhs` elsewhere. The result has a
+/// validity bitmap exactly if `lhs` or `rhs` has one. Requires that all three have equal lengths.
 ///
 /// In arrow2 it is `if_then_else`, whose mask is a boolean array.
 ///
 /// # Errors
 ///
-/// `OutOfMemory` alone.
+/// Only `OutOfMemory`.
 pub fn if_then_else_boolean(
     mask: &Bitmap,
     lhs: &BooleanArray,

@@ -23,13 +23,14 @@ use arrow2_validity::Validity;
 use std::alloc::AllocError;
 use std::convert::TryFrom;
 
-/// Returns the items at these indices, in the order of the indices. Requires that each index is below the length.
+/// Returns the items at these indices, in the order of the indices. The result has the logical type of `array`, and a
+/// validity bitmap exactly if `array` has one. Requires that each index is below the length.
 ///
 /// Differs from arrow2: the indices are a slice of numbers, which has no nulls.
 ///
 /// # Errors
 ///
-/// `OutOfMemory` alone.
+/// Only `OutOfMemory`.
 pub fn take<T: NativeType>(
     array: &PrimitiveArray<T>,
     indices: &[usize],
@@ -96,15 +97,15 @@ fn bits_at(bitmap: &Bitmap, indices: &[usize]) -> Result<Bitmap>
     )
 }
 
-/// Returns, for each index in `indices`, the item at this index, and null where the index is null. The result has a
-/// validity bitmap exactly if an item of it is null. The number stored under a null index has no effect on the items.
-/// Requires that each index is null, or at least 0 and below the length.
+/// Returns, for each index in `indices`, the item at this index, and null where the index is null. The result has the
+/// logical type of `array`, and a validity bitmap exactly if an item of it is null. The number stored under a null
+/// index has no effect on the items. Requires that each index is null, or at least 0 and below the length.
 ///
 /// In arrow2 it is `take`.
 ///
 /// # Errors
 ///
-/// `OutOfMemory` alone.
+/// Only `OutOfMemory`.
 pub fn take_by_array<T: NativeType, I: Index>(
     array: &PrimitiveArray<T>,
     indices: &PrimitiveArray<I>,
@@ -177,8 +178,9 @@ fn item_at<T: NativeType, I: Index>(array: &PrimitiveArray<T>, index: Option<I>)
     }
 }
 
-/// Returns the byte strings or texts at these indices, in the order of the indices. The result has a validity bitmap
-/// exactly if an item of it is null. Requires that each index is below the length.
+/// Returns the byte strings or texts at these indices, in the order of the indices. The result has the logical type of
+/// `array`, and a validity bitmap exactly if an item of it is null. It stores no bytes outside its slots. Requires that
+/// each index is below the length.
 ///
 /// In arrow2 it is `take`, whose indices are an array.
 ///
@@ -211,7 +213,8 @@ pub fn take_binary<A: Binary>(array: &A, indices: &[usize]) -> Result<A>
 }
 
 /// Returns, for each index in `indices`, the byte string or text at this index, and null where the index is null. The
-/// result has a validity bitmap exactly if an item of it is null. The number stored under a null index has no effect on
+/// result has the logical type of `array`, and a validity bitmap exactly if an item of it is null. It stores no bytes
+/// outside its slots. The number stored under a null index has no effect on
 /// the items. Requires that each index is null, or at least 0 and below the length.
 ///
 /// In arrow2 it is `take`.
@@ -264,13 +267,14 @@ fn push_item_or_null<A: Binary, I: Index>(
     }
 }
 
-/// Returns the booleans at these indices, in the order of the indices. Requires that each index is below the length.
+/// Returns the booleans at these indices, in the order of the indices. The result has a validity bitmap exactly if
+/// `array` has one. Requires that each index is below the length.
 ///
 /// In arrow2 it is `take`, whose indices are an array.
 ///
 /// # Errors
 ///
-/// `OutOfMemory` alone.
+/// Only `OutOfMemory`.
 pub fn take_boolean(array: &BooleanArray, indices: &[usize]) -> Result<BooleanArray>
     requires inside { All (λ index. index < length (boolean_items array.now)) indices.now }
     ensures items { IfOk result (λ a. boolean_items a
@@ -291,7 +295,7 @@ pub fn take_boolean(array: &BooleanArray, indices: &[usize]) -> Result<BooleanAr
 ///
 /// # Errors
 ///
-/// `OutOfMemory` alone.
+/// Only `OutOfMemory`.
 pub fn take_boolean_by_array<I: Index>(
     array: &BooleanArray,
     indices: &PrimitiveArray<I>,

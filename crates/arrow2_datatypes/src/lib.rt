@@ -281,7 +281,7 @@ impl UnionMode {
 ///
 /// # Errors
 ///
-/// `OutOfMemory` alone, and only where there is a name.
+/// Only `OutOfMemory`, and only where there is a name.
 pub fn get_extension(metadata: &Metadata) -> Result<Option<(String, Option<String>)>>
     ensures ok { IfOk result (λ found. texts found ≡ extension metadata.now) }
     ensures succeeds { get_by_text metadata.now (codes "ARROW:extension:name") ≡ None →

@@ -11,7 +11,7 @@ use arrow2_kernels::simd_assign::assign_unary;
 
 /// Replaces the first `length` bits by the outputs of a table of one input.
 ///
-/// Returns `ARROW2_RANGE` exactly where the table is above 3, else `ARROW2_LENGTH` exactly where `bytes` does not have
+/// Returns `ARROW2_RANGE` exactly where `table` is above 3, else `ARROW2_LENGTH` exactly where `bytes` does not have
 /// exactly the bytes that hold `length` bits.
 #[unsafe(no_mangle)]
 pub extern "C" fn arrow2_unary_assign_table(bytes: &mut [u8], length: usize, table: u16) -> u32
@@ -31,7 +31,7 @@ pub extern "C" fn arrow2_unary_assign_table(bytes: &mut [u8], length: usize, tab
 /// Replaces each of the first `length` bits by the output of a table of two inputs: this bit, and the bit at the same
 /// index of the second input, counted from its offset.
 ///
-/// Returns `ARROW2_RANGE` exactly where the table is above 15 or the bits of the second input are not inside its bytes,
+/// Returns `ARROW2_RANGE` exactly where `table` is above 15 or the bits of the second input are not inside its bytes,
 /// else `ARROW2_LENGTH` exactly where `bytes` does not have exactly the bytes that hold `length` bits.
 #[unsafe(no_mangle)]
 pub extern "C" fn arrow2_binary_assign_table(
@@ -56,9 +56,9 @@ pub extern "C" fn arrow2_binary_assign_table(
     ARROW2_OK
 }
 
-/// The same for a table of three inputs.
+/// Does what `arrow2_binary_assign_table` does, for a table of three inputs.
 ///
-/// Returns `ARROW2_RANGE` exactly where the table is above 255 or the bits of the second or third input are not inside
+/// Returns `ARROW2_RANGE` exactly where `table` is above 255 or the bits of the second or third input are not inside
 /// its bytes, else `ARROW2_LENGTH` exactly where `bytes` does not have exactly the bytes that hold `length` bits.
 #[unsafe(no_mangle)]
 pub extern "C" fn arrow2_ternary_assign_table(
@@ -86,7 +86,7 @@ pub extern "C" fn arrow2_ternary_assign_table(
     ARROW2_OK
 }
 
-/// The same for a table of four inputs.
+/// Does what `arrow2_binary_assign_table` does, for a table of four inputs.
 ///
 /// Returns `ARROW2_RANGE` exactly where the bits of the second, third or fourth input are not inside its bytes, else
 /// `ARROW2_LENGTH` exactly where `bytes` does not have exactly the bytes that hold `length` bits.

@@ -21,7 +21,8 @@ pub extern "C" fn arrow2_offsets32_check_inside(
     check_inside(offsets, items, index)
 }
 
-/// The same for offsets of 64 bits.
+/// Does what `arrow2_offsets32_check_inside` does, for offsets of 64 bits and with the codes of
+/// `arrow2_offsets64_check`.
 #[unsafe(no_mangle)]
 pub extern "C" fn arrow2_offsets64_check_inside(
     offsets: &[i64],
@@ -36,10 +37,11 @@ pub extern "C" fn arrow2_offsets64_check_inside(
 /// Checks that the numbers are offsets of 32 bits, none is above the number of bytes in `values`, and the bytes of each
 /// slot, from its offset to the next, are UTF-8.
 ///
-/// Where `arrow2_offsets32_check_inside`, with the number of bytes as `items`, returns another code than `ARROW2_OK`,
-/// returns this code, and writes to `index` what that call writes: with `ARROW2_SPEC_EMPTY` and `ARROW2_SPEC_NEGATIVE`
-/// nothing. Else returns `ARROW2_UTF8` exactly where the bytes of a slot are not UTF-8, and writes the first such slot
-/// to `index`. With `ARROW2_OK` `index` stays.
+/// First checks the offsets as `arrow2_offsets32_check_inside` does, where `items` is the number of bytes in `values`.
+/// If that check fails, returns its code, and writes to `index` what it writes.
+///
+/// Else returns `ARROW2_UTF8` exactly where the bytes of a slot are not UTF-8, and writes the index of the first such
+/// slot to `index`. With `ARROW2_OK`, `ARROW2_SPEC_EMPTY` and `ARROW2_SPEC_NEGATIVE`, `index` stays as it was.
 #[unsafe(no_mangle)]
 pub extern "C" fn arrow2_texts32_check(offsets: &[i32], values: &[u8], index: &mut usize) -> u32
     ensures { ChecksTexts result offsets.now values.now index.old index.new }
@@ -47,7 +49,7 @@ pub extern "C" fn arrow2_texts32_check(offsets: &[i32], values: &[u8], index: &m
     check_texts(offsets, values, index)
 }
 
-/// The same for offsets of 64 bits.
+/// Does what `arrow2_texts32_check` does, for offsets of 64 bits.
 #[unsafe(no_mangle)]
 pub extern "C" fn arrow2_texts64_check(offsets: &[i64], values: &[u8], index: &mut usize) -> u32
     ensures { ChecksTexts result offsets.now values.now index.old index.new }

@@ -6,8 +6,9 @@ ghost use Rattle.arrow2_ffi.specs.Validities.{given_validity};
 use crate::index_checks::check;
 use crate::validities::given_validity;
 
-/// Checks that each index that is not null is at least 0 and below `items`. If `all_valid` is true, no index is null,
-/// and nothing of the validity is read.
+/// Checks that each index that is not null is at least 0 and below `items`, the length of the dictionary. Bit
+/// `validity_offset + i` of `validity` is the validity of `indices[i]`. If `all_valid` is true, no index is null, and
+/// nothing of the validity is read.
 ///
 /// Returns `ARROW2_RANGE` exactly where `all_valid` is false and the bits from bit `validity_offset` on, one for each
 /// index, are not inside the validity. Else returns `ARROW2_INDEX` exactly where an index that is not null is negative
@@ -29,7 +30,7 @@ pub extern "C" fn arrow2_indices_i8_check(
     check(indices, validity, items, slot)
 }
 
-/// The same for indices of type `u8`.
+/// Does what `arrow2_indices_i8_check` does, for indices of type `u8`.
 #[unsafe(no_mangle)]
 pub extern "C" fn arrow2_indices_u8_check(
     indices: &[u8],
@@ -46,7 +47,7 @@ pub extern "C" fn arrow2_indices_u8_check(
     check(indices, validity, items, slot)
 }
 
-/// The same for indices of type `i16`.
+/// Does what `arrow2_indices_i8_check` does, for indices of type `i16`.
 #[unsafe(no_mangle)]
 pub extern "C" fn arrow2_indices_i16_check(
     indices: &[i16],
@@ -63,7 +64,7 @@ pub extern "C" fn arrow2_indices_i16_check(
     check(indices, validity, items, slot)
 }
 
-/// The same for indices of type `u16`.
+/// Does what `arrow2_indices_i8_check` does, for indices of type `u16`.
 #[unsafe(no_mangle)]
 pub extern "C" fn arrow2_indices_u16_check(
     indices: &[u16],
@@ -80,7 +81,7 @@ pub extern "C" fn arrow2_indices_u16_check(
     check(indices, validity, items, slot)
 }
 
-/// The same for indices of type `i32`.
+/// Does what `arrow2_indices_i8_check` does, for indices of type `i32`.
 #[unsafe(no_mangle)]
 pub extern "C" fn arrow2_indices_i32_check(
     indices: &[i32],
@@ -97,7 +98,7 @@ pub extern "C" fn arrow2_indices_i32_check(
     check(indices, validity, items, slot)
 }
 
-/// The same for indices of type `u32`.
+/// Does what `arrow2_indices_i8_check` does, for indices of type `u32`.
 #[unsafe(no_mangle)]
 pub extern "C" fn arrow2_indices_u32_check(
     indices: &[u32],
@@ -114,7 +115,7 @@ pub extern "C" fn arrow2_indices_u32_check(
     check(indices, validity, items, slot)
 }
 
-/// The same for indices of type `i64`.
+/// Does what `arrow2_indices_i8_check` does, for indices of type `i64`.
 #[unsafe(no_mangle)]
 pub extern "C" fn arrow2_indices_i64_check(
     indices: &[i64],
@@ -131,7 +132,7 @@ pub extern "C" fn arrow2_indices_i64_check(
     check(indices, validity, items, slot)
 }
 
-/// The same for indices of type `u64`.
+/// Does what `arrow2_indices_i8_check` does, for indices of type `u64`.
 #[unsafe(no_mangle)]
 pub extern "C" fn arrow2_indices_u64_check(
     indices: &[u64],

@@ -1,5 +1,6 @@
-//! Kleene's logic on values with their validity: an item is null where its validity bit is not set. Where a validity is
-//! missing, no item of that side is null. A missing validity needs no bytes.
+//! Kleene's logic on values with their validity: an item is null where its validity bit is not set. Only the
+//! `_optional` calls accept a side without a validity, by `lhs_all_valid` and `rhs_all_valid`: no item of that side is
+//! null, and its validity needs no bytes.
 //!
 //! The values of the result are written over `values` and its validity over `validity`, from bit 0 on. Both slices must
 //! have exactly the number of bytes that hold `length` bits. Their padding bits become 0. Each value of the result is
@@ -48,7 +49,8 @@ impl<'a> Side<'a> {
     }
 }
 
-/// Writes AND, item by item: false where either is false, else null where either is null, else true.
+/// Writes the values of AND to `values`, and which are not null to `validity`. An item is false where either side is
+/// false, else null where either is null, else true. The value under a null is AND of both values.
 ///
 /// Returns `ARROW2_RANGE` exactly where `length` bits of the values or of the validity of a side, each from its offset
 /// on, are not inside their bytes, also for a `length` of 0; else `ARROW2_LENGTH` exactly where `values` or `validity`
@@ -67,7 +69,8 @@ pub extern "C" fn arrow2_and_kleene(
     values: &mut [u8],
     validity: &mut [u8],
 ) -> u32
-    // `false`: each side has a validity.
+    // `written`: when each code comes, and both outputs with `ARROW2_OK`. `side`: the values and the validity of a
+    // side. `rejected`: with another code both outputs stay.
     ensures written { GivesAnd result length
         (side lhs.now lhs_offset lhs_validity.now lhs_validity_offset false)
         (side rhs.now rhs_offset rhs_validity.now rhs_validity_offset false)
@@ -80,7 +83,8 @@ pub extern "C" fn arrow2_and_kleene(
     write::<AND_VALUES, AND_KNOWN, AND_KNOWN_PAIRED>(lhs, rhs, length, values, validity)
 }
 
-/// Writes OR, item by item: true where either is true, else null where either is null, else false.
+/// Writes the values of OR to `values`, and which are not null to `validity`. An item is true where either side is
+/// true, else null where either is null, else false. The value under a null is OR of both values.
 ///
 /// Returns the codes of `arrow2_and_kleene`, in the same cases.
 #[unsafe(no_mangle)]
@@ -97,6 +101,8 @@ pub extern "C" fn arrow2_or_kleene(
     values: &mut [u8],
     validity: &mut [u8],
 ) -> u32
+    // `written`: when each code comes, and both outputs with `ARROW2_OK`. `side`: the values and the validity of a
+    // side. `rejected`: with another code both outputs stay.
     ensures written { GivesOr result length
         (side lhs.now lhs_offset lhs_validity.now lhs_validity_offset false)
         (side rhs.now rhs_offset rhs_validity.now rhs_validity_offset false)
@@ -131,6 +137,8 @@ pub extern "C" fn arrow2_and_kleene_optional(
     values: &mut [u8],
     validity: &mut [u8],
 ) -> u32
+    // `written`: when each code comes, and both outputs with `ARROW2_OK`. `side`: the values and the validity of a
+    // side. `rejected`: with another code both outputs stay.
     ensures written { GivesAnd result length
         (side lhs.now lhs_offset lhs_validity.now lhs_validity_offset lhs_all_valid)
         (side rhs.now rhs_offset rhs_validity.now rhs_validity_offset rhs_all_valid)
@@ -175,6 +183,8 @@ pub extern "C" fn arrow2_or_kleene_optional(
     values: &mut [u8],
     validity: &mut [u8],
 ) -> u32
+    // `written`: when each code comes, and both outputs with `ARROW2_OK`. `side`: the values and the validity of a
+    // side. `rejected`: with another code both outputs stay.
     ensures written { GivesOr result length
         (side lhs.now lhs_offset lhs_validity.now lhs_validity_offset lhs_all_valid)
         (side rhs.now rhs_offset rhs_validity.now rhs_validity_offset rhs_all_valid)

@@ -3,6 +3,8 @@
 //! In the docs of the calls, `length` bits from bit `offset` on are inside the bytes if the exact sum of `offset` and
 //! `length` is at most 8 times the number of bytes, also where `length` is 0. With a code other than `ARROW2_OK` a call
 //! writes nothing but what its docs name.
+//!
+//! A C caller must also follow the rules of `docs/BINDINGS.md` on pointers, alignment, overlap, booleans and threads.
 #![tactic(auto)]
 
 pub mod assign_tables;

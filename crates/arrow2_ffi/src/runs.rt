@@ -7,14 +7,18 @@ use crate::bits_input::{Bits, are_inside};
 use crate::codes::{ARROW2_LENGTH, ARROW2_OK, ARROW2_RANGE};
 use arrow2_walks::{BitCursor, find_bit};
 
-/// Finds the runs of set bits among the `length` bits from bit `offset` on. Indices are relative to `offset`: index 0
-/// is bit `offset`. The search begins at index `at`. If `at` is inside a run, only the part of that run from `at` on is
-/// found. Writes to `starts` the index at which each run begins, and to `lengths` its length in bits, until the slices
-/// are full or no run is left. Writes to `count` how many runs it wrote, and to `at` where the next call goes on. If
-/// `count` is below the length of the slices, no run is left, and `at` is `length`. If the slices are full, runs may be
-/// left. The exact value of `at` is then not specified: it is at least the end of the last run written, and at most the
-/// start of the next run, or at most `length` if there is none. `at` never falls. With slices of length 0, `count` is
-/// always 0, runs may be left, and `at` may stay as it was. What the slices hold from `count` on is not specified.
+/// Finds the runs of set bits among the `length` bits from bit `offset` on. Index 0 is bit `offset`.
+///
+/// The search begins at index `at`. If `at` is inside a run, finds only the part from `at` on. Writes the index at
+/// which each run begins to `starts`, and its length in bits to `lengths`, until the slices are full or no run is left.
+/// Writes how many runs it wrote to `count`, and where the next call goes on to `at`. `at` never falls.
+///
+/// If `count` is below the length of the slices, no run is left, and `at` is `length`. If the slices are full, runs may
+/// be left. The exact value of `at` is then not specified: it is at least the end of the last run written, and at most
+/// the start of the next run, or at most `length` if there is none.
+///
+/// To find all runs, call again until `count` is below the length of the slices. With slices of length 0 this never
+/// happens: `count` is always 0, and `at` may stay as it was. What the slices hold from `count` on is not specified.
 ///
 /// Returns `ARROW2_RANGE` exactly where the bits are not inside, or `at` is above `length`; else `ARROW2_LENGTH`
 /// exactly where `starts` and `lengths` differ in length.

@@ -11,13 +11,18 @@ use crate::codes::{ARROW2_OK, ARROW2_RANGE};
 use arrow2_bits::word_from;
 use arrow2_chunk::{BitChunk, BitChunkOnes};
 
-/// Finds the set bits among the `length` bits from bit `offset` on. Indices are relative to `offset`: index 0 is bit
-/// `offset`. The search begins at index `at`. Writes the indices of set bits to `indices`, in rising order, until
-/// `indices` is full or no set bit is left. Writes to `count` how many indices it wrote, and to `at` where the next
-/// call goes on. If `count` is below the length of `indices`, no set bit is left, and `at` is `length`. If `indices` is
-/// full, set bits may be left. The exact value of `at` is then not specified: it is above the last index written, and
-/// at most the index of the next set bit, or at most `length` if there is none. `at` never falls. With `indices` of
-/// length 0, `count` is always 0, and set bits may be left. What `indices` holds from `count` on is not specified.
+/// Finds the set bits among the `length` bits from bit `offset` on. Index 0 is bit `offset`.
+///
+/// The search begins at index `at`. Writes the indices of set bits to `indices`, in rising order, until `indices` is
+/// full or no set bit is left. Writes how many indices it wrote to `count`, and where the next call goes on to `at`.
+/// `at` never falls.
+///
+/// If `count` is below the length of `indices`, no set bit is left, and `at` is `length`. If `indices` is full, set
+/// bits may be left. The exact value of `at` is then not specified: it is above the last index written, and at most the
+/// index of the next set bit, or at most `length` if there is none.
+///
+/// To find all set bits, call again until `count` is below the length of `indices`. With `indices` of length 0 this
+/// never happens: `count` is always 0. What `indices` holds from `count` on is not specified.
 ///
 /// Returns `ARROW2_RANGE` exactly where the bits are not inside, or `at` is above `length`.
 #[unsafe(no_mangle)]

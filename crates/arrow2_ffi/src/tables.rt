@@ -11,9 +11,9 @@ use crate::codes::{ARROW2_LENGTH, ARROW2_OK, ARROW2_RANGE};
 use crate::in_place::{assign_four, assign_three, assign_two, copy};
 use arrow2_kernels::simd_assign::assign_unary;
 
-/// Writes the outputs of a table of one input for the `length` bits from bit `offset` on.
+/// Writes to `out` the output of `table`, of one input, for each of the `length` bits from bit `offset` on.
 ///
-/// Returns `ARROW2_RANGE` exactly where the table is above 3 or the bits are not inside their bytes, else
+/// Returns `ARROW2_RANGE` exactly where `table` is above 3 or the bits are not inside their bytes, else
 /// `ARROW2_LENGTH` exactly where `out` does not have exactly the bytes that hold `length` bits.
 #[unsafe(no_mangle)]
 pub extern "C" fn arrow2_unary_table(
@@ -38,9 +38,9 @@ pub extern "C" fn arrow2_unary_table(
     ARROW2_OK
 }
 
-/// Writes the outputs of a table of two inputs for the `length` bits of each from its offset on.
+/// Writes to `out` the output of `table`, of two inputs, for the `length` bits of each input from its offset on.
 ///
-/// Returns `ARROW2_RANGE` exactly where the table is above 15 or the bits of an input are not inside its bytes, else
+/// Returns `ARROW2_RANGE` exactly where `table` is above 15 or the bits of an input are not inside its bytes, else
 /// `ARROW2_LENGTH` exactly where `out` does not have exactly the bytes that hold `length` bits.
 #[unsafe(no_mangle)]
 pub extern "C" fn arrow2_binary_table(
@@ -69,9 +69,9 @@ pub extern "C" fn arrow2_binary_table(
     ARROW2_OK
 }
 
-/// Writes the outputs of a table of three inputs for the `length` bits of each from its offset on.
+/// Writes to `out` the output of `table`, of three inputs, for the `length` bits of each input from its offset on.
 ///
-/// Returns `ARROW2_RANGE` exactly where the table is above 255 or the bits of an input are not inside its bytes, else
+/// Returns `ARROW2_RANGE` exactly where `table` is above 255 or the bits of an input are not inside its bytes, else
 /// `ARROW2_LENGTH` exactly where `out` does not have exactly the bytes that hold `length` bits.
 #[unsafe(no_mangle)]
 pub extern "C" fn arrow2_ternary_table(
@@ -104,7 +104,7 @@ pub extern "C" fn arrow2_ternary_table(
     ARROW2_OK
 }
 
-/// Writes the outputs of a table of four inputs for the `length` bits of each from its offset on.
+/// Writes to `out` the output of `table`, of four inputs, for the `length` bits of each input from its offset on.
 ///
 /// Returns `ARROW2_RANGE` exactly where the bits of an input are not inside its bytes, else `ARROW2_LENGTH` exactly
 /// where `out` does not have exactly the bytes that hold `length` bits.

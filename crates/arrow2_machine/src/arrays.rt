@@ -161,7 +161,7 @@ impl Slot {
     fn write_array(&self, out: &mut Vec<u8>) -> Result<(), CommandError>
         ensures { WritesText result out.old.items out.new.items (array_reply self.now) }
     {
-        write_array_items(self.array()?.iter(), out)?;
+        write_array_items(self.array()?, out)?;
         Ok(())
     }
 

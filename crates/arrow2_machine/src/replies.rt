@@ -1,12 +1,13 @@
 //! The parts of replies.
 ghost use Rattle.std.specs.Prelude.{◌≡◌, ◌++◌, ℕ, length, map, unsigned_abs, OnOk};
 ghost use Rattle.std.specs.Fmt.{decimal};
+ghost use Rattle.arrow2.specs.Items.{boolean_items};
 ghost use Rattle.arrow2.specs.Zipped.{slot, zipped};
 ghost use Rattle.arrow2.specs.Words.{words};
 ghost use Rattle.arrow2_script.specs.Words.{bit_byte as byte_of, bits_text};
 ghost use Rattle.arrow2_machine.specs.Replies.{array_byte as array_byte_of, array_items_text, item_reply, listed_word, offset_reply, run_word, slot_word, words_text};
 
-use arrow2::array::BooleanIter;
+use arrow2::array::BooleanArray;
 use arrow2::bitmap::utils::{BitChunk, BitChunks, BitmapIter, SlicesIterator};
 use arrow2::offset::Lengths;
 use std::alloc::AllocError;
@@ -199,10 +200,11 @@ fn array_byte(item: Option<bool>) -> u8
 }
 
 /// Appends the text of a boolean array's items, `-` if there are none.
-pub(crate) fn write_array_items(items: BooleanIter<'_>, out: &mut Vec<u8>) -> Result<(), AllocError>
-    ensures { OnOk result (out.new.items ≡ out.old.items ++ array_items_text items.entry) }
+pub(crate) fn write_array_items(array: &BooleanArray, out: &mut Vec<u8>) -> Result<(), AllocError>
+    ensures { OnOk result (out.new.items
+        ≡ out.old.items ++ array_items_text (boolean_items array.now)) }
 {
-    let mut items = items;
+    let mut items = array.iter();
     let Some(first) = items.next() else {
         return out.extend_from_slice(b"-");
     };

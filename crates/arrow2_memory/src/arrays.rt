@@ -25,13 +25,20 @@ fn frozen_array(alloc: Global) -> Result<BooleanArray> {
     grown.freeze()
 }
 
-/// Returns the number of items of an array that has spare capacity.
-fn arrays_with_capacity(alloc: Global) -> [Row<usize>; 1] {
+/// Returns the numbers of items of arrays that grow: one with spare capacity, and one that an iterator gave.
+fn growing(alloc: Global) -> [Row<usize>; 2] {
     let array = MutableBooleanArray::with_capacity(alloc, 20);
-    [(
-        "MutableBooleanArray::with_capacity",
-        array.map(|array| array.len()),
-    )]
+    let collected = MutableBooleanArray::try_from_iter(alloc, Some(None));
+    [
+        (
+            "MutableBooleanArray::with_capacity",
+            array.map(|array| array.len()),
+        ),
+        (
+            "MutableBooleanArray::try_from_iter",
+            collected.map(|array| array.len()),
+        ),
+    ]
 }
 
 /// The ways in which an array grows or its capacity changes.
@@ -41,6 +48,10 @@ enum Growth {
     Push,
     /// By a null.
     PushNull,
+    /// By values that are not null.
+    ExtendFromSlice,
+    /// By items.
+    ExtendFromOptions,
     /// By one item many times.
     ExtendConstant,
     /// By the second half of another array.
@@ -54,6 +65,14 @@ fn grow(growth: Growth, array: &mut MutableBooleanArray, other: &BooleanArray) -
     match growth {
         Growth::Push => ("MutableBooleanArray::push", array.push(Some(true))),
         Growth::PushNull => ("MutableBooleanArray::push_null", array.push_null()),
+        Growth::ExtendFromSlice => (
+            "MutableBooleanArray::extend_from_slice",
+            array.extend_from_slice(&[true, false]),
+        ),
+        Growth::ExtendFromOptions => (
+            "MutableBooleanArray::extend_from_options",
+            array.extend_from_options(&[Some(true), None]),
+        ),
         Growth::ExtendConstant => (
             "MutableBooleanArray::extend_constant",
             array.extend_constant(90, None),
@@ -86,15 +105,13 @@ fn grow_and_show<R: Print + Eprint>(rt: &R, alloc: Global, growth: Growth, other
 /// Makes each of these calls.
 pub(crate) fn all<R: Print + Eprint>(rt: &R, alloc: Global) -> Result<()> {
     show_results(rt, &new_arrays(alloc), &new_arrays(alloc));
-    show_results(
-        rt,
-        &arrays_with_capacity(alloc),
-        &arrays_with_capacity(alloc),
-    );
+    show_results(rt, &growing(alloc), &growing(alloc));
     let other = array(alloc).or(array(alloc))?;
     for growth in [
         Growth::Push,
         Growth::PushNull,
+        Growth::ExtendFromSlice,
+        Growth::ExtendFromOptions,
         Growth::ExtendConstant,
         Growth::ExtendFromArray,
         Growth::Reserve,

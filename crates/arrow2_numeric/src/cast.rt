@@ -23,7 +23,7 @@ use std::rc::Rc;
 ///
 /// # Errors
 ///
-/// `OutOfMemory` alone.
+/// Only `OutOfMemory`.
 pub fn primitive_to_primitive<I: NativeType + PrimInt, O: NativeType + PrimInt>(
     array: &PrimitiveArray<I>,
     data_type: Rc<DataType>,

@@ -22,7 +22,7 @@ use arrow2_types::{Error, NativeType, Result};
 ///
 /// # Errors
 ///
-/// `OutOfMemory` alone.
+/// Only `OutOfMemory`.
 pub fn compare_each<T: NativeType, F: Fn(&T) -> bool>(
     array: &PrimitiveArray<T>,
     test: F,
@@ -48,7 +48,7 @@ pub fn compare_each<T: NativeType, F: Fn(&T) -> bool>(
 ///
 /// # Errors
 ///
-/// `OutOfMemory` alone.
+/// Only `OutOfMemory`.
 pub fn eq_scalar<T: NativeType>(array: &PrimitiveArray<T>, scalar: T) -> Result<BooleanArray>
     ensures items { IfOk result (λ a. boolean_items a
         ≡ map (option_map (λ value. T.PartialEq.eq value scalar)) (primitive_items array.now)) }
@@ -62,7 +62,7 @@ pub fn eq_scalar<T: NativeType>(array: &PrimitiveArray<T>, scalar: T) -> Result<
 ///
 /// # Errors
 ///
-/// `OutOfMemory` alone.
+/// Only `OutOfMemory`.
 pub fn neq_scalar<T: NativeType>(array: &PrimitiveArray<T>, scalar: T) -> Result<BooleanArray>
     ensures items { IfOk result (λ a. boolean_items a
         ≡ map (option_map (λ value. not (T.PartialEq.eq value scalar))) (primitive_items array.now)) }
@@ -76,7 +76,7 @@ pub fn neq_scalar<T: NativeType>(array: &PrimitiveArray<T>, scalar: T) -> Result
 ///
 /// # Errors
 ///
-/// `OutOfMemory` alone.
+/// Only `OutOfMemory`.
 pub fn lt_scalar<T: NativeType + PartialOrd>(
     array: &PrimitiveArray<T>,
     scalar: T,
@@ -93,7 +93,7 @@ pub fn lt_scalar<T: NativeType + PartialOrd>(
 ///
 /// # Errors
 ///
-/// `OutOfMemory` alone.
+/// Only `OutOfMemory`.
 pub fn lt_eq_scalar<T: NativeType + PartialOrd>(
     array: &PrimitiveArray<T>,
     scalar: T,
@@ -110,7 +110,7 @@ pub fn lt_eq_scalar<T: NativeType + PartialOrd>(
 ///
 /// # Errors
 ///
-/// `OutOfMemory` alone.
+/// Only `OutOfMemory`.
 pub fn gt_scalar<T: NativeType + PartialOrd>(
     array: &PrimitiveArray<T>,
     scalar: T,
@@ -127,7 +127,7 @@ pub fn gt_scalar<T: NativeType + PartialOrd>(
 ///
 /// # Errors
 ///
-/// `OutOfMemory` alone.
+/// Only `OutOfMemory`.
 pub fn gt_eq_scalar<T: NativeType + PartialOrd>(
     array: &PrimitiveArray<T>,
     scalar: T,
@@ -146,7 +146,7 @@ pub fn gt_eq_scalar<T: NativeType + PartialOrd>(
 ///
 /// # Errors
 ///
-/// `OutOfMemory` alone.
+/// Only `OutOfMemory`.
 fn compare_pairs<T: NativeType, F: Fn(T, T) -> bool>(
     lhs: &PrimitiveArray<T>,
     rhs: &PrimitiveArray<T>,
@@ -183,7 +183,7 @@ fn compare_pairs<T: NativeType, F: Fn(T, T) -> bool>(
 ///
 /// # Errors
 ///
-/// `OutOfMemory` alone.
+/// Only `OutOfMemory`.
 pub fn eq<T: NativeType>(lhs: &PrimitiveArray<T>, rhs: &PrimitiveArray<T>) -> Result<BooleanArray>
     requires same_length { length (primitive_items lhs.now) ≡ length (primitive_items rhs.now) }
     ensures items { IfOk result (λ a. boolean_items a
@@ -200,7 +200,7 @@ pub fn eq<T: NativeType>(lhs: &PrimitiveArray<T>, rhs: &PrimitiveArray<T>) -> Re
 ///
 /// # Errors
 ///
-/// `OutOfMemory` alone.
+/// Only `OutOfMemory`.
 pub fn neq<T: NativeType>(lhs: &PrimitiveArray<T>, rhs: &PrimitiveArray<T>) -> Result<BooleanArray>
     requires same_length { length (primitive_items lhs.now) ≡ length (primitive_items rhs.now) }
     ensures items { IfOk result (λ a. boolean_items a
@@ -217,7 +217,7 @@ pub fn neq<T: NativeType>(lhs: &PrimitiveArray<T>, rhs: &PrimitiveArray<T>) -> R
 ///
 /// # Errors
 ///
-/// `OutOfMemory` alone.
+/// Only `OutOfMemory`.
 pub fn lt<T: NativeType + PartialOrd>(
     lhs: &PrimitiveArray<T>,
     rhs: &PrimitiveArray<T>,
@@ -237,7 +237,7 @@ pub fn lt<T: NativeType + PartialOrd>(
 ///
 /// # Errors
 ///
-/// `OutOfMemory` alone.
+/// Only `OutOfMemory`.
 pub fn lt_eq<T: NativeType + PartialOrd>(
     lhs: &PrimitiveArray<T>,
     rhs: &PrimitiveArray<T>,
@@ -257,7 +257,7 @@ pub fn lt_eq<T: NativeType + PartialOrd>(
 ///
 /// # Errors
 ///
-/// `OutOfMemory` alone.
+/// Only `OutOfMemory`.
 pub fn gt<T: NativeType + PartialOrd>(
     lhs: &PrimitiveArray<T>,
     rhs: &PrimitiveArray<T>,
@@ -277,7 +277,7 @@ pub fn gt<T: NativeType + PartialOrd>(
 ///
 /// # Errors
 ///
-/// `OutOfMemory` alone.
+/// Only `OutOfMemory`.
 pub fn gt_eq<T: NativeType + PartialOrd>(
     lhs: &PrimitiveArray<T>,
     rhs: &PrimitiveArray<T>,

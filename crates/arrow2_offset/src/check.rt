@@ -23,6 +23,7 @@ pub enum BrokenRule {
 ///
 /// In arrow2 the test is private, and returns an error with a text.
 pub fn broken_rule<O: Offset>(offsets: &[O]) -> Option<BrokenRule>
+    // `O.MAX` adds nothing: no number of the type is above it.
     ensures none { IfNone result (AreOffsetsUpTo O.MAX (map O.value offsets.now)) }
     ensures accepted { AreOffsets (map O.value offsets.now) → IsNone result }
     ensures broken { IfSome result (λ rule. rule ≡ first_broken_rule (map O.value offsets.now)) }

@@ -16,7 +16,7 @@ use std::alloc::{AllocError, Global};
 ///
 /// # Errors
 ///
-/// `OutOfMemory` alone. The offsets are then dropped.
+/// Only `OutOfMemory`. The offsets are then dropped.
 impl TryFrom<Offsets<i32>> for Offsets<i64> {
     type Error = Error;
 
@@ -34,7 +34,7 @@ impl TryFrom<Offsets<i32>> for Offsets<i64> {
 ///
 /// # Errors
 ///
-/// `Overflow` exactly where the last offset is above 2147483647, else `OutOfMemory` alone. After either error the
+/// `Overflow` exactly where the last offset is above 2147483647, else only `OutOfMemory`. After either error the
 /// offsets are dropped.
 impl TryFrom<Offsets<i64>> for Offsets<i32> {
     type Error = Error;
@@ -61,7 +61,7 @@ impl TryFrom<Offsets<i64>> for Offsets<i32> {
 ///
 /// # Errors
 ///
-/// `OutOfMemory` alone.
+/// Only `OutOfMemory`.
 impl<'a> TryFrom<&'a OffsetsBuffer<i32>> for OffsetsBuffer<i64> {
     type Error = Error;
 
@@ -80,7 +80,7 @@ impl<'a> TryFrom<&'a OffsetsBuffer<i32>> for OffsetsBuffer<i64> {
 ///
 /// # Errors
 ///
-/// `Overflow` exactly where the last offset is above 2147483647, else `OutOfMemory` alone.
+/// `Overflow` exactly where the last offset is above 2147483647, else only `OutOfMemory`.
 impl<'a> TryFrom<&'a OffsetsBuffer<i64>> for OffsetsBuffer<i32> {
     type Error = Error;
 

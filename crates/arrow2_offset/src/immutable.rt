@@ -62,7 +62,7 @@ impl<O: Offset> OffsetsBuffer<O> {
     ///
     /// # Errors
     ///
-    /// `OutOfMemory` alone.
+    /// Only `OutOfMemory`.
     pub fn new(alloc: Global) -> Result<Self>
         ensures ok { IfOk result (λ b. b ≡ whole_buffer (pos 0 ∷ [])) }
         ensures only { IfErr result (λ e. e ≡ Error.OutOfMemory) }
@@ -74,7 +74,7 @@ impl<O: Offset> OffsetsBuffer<O> {
     /// that `Right` comes only if nothing is sliced off.
     ///
     /// In the code, `Right` comes exactly if nothing is sliced off and nobody shares the storage, and the call does not
-    /// allocate. No clause states this.
+    /// allocate. No clause states this, nor the capacity of `Right`.
     ///
     /// Differs from arrow2, which returns the whole storage, also where the offsets are sliced.
     pub fn into_mut(self) -> Either<Self, Offsets<O>>
@@ -91,8 +91,10 @@ impl<O: Offset> OffsetsBuffer<O> {
         }
     }
 
-    /// Returns the buffer of the offsets.
+    /// Returns the buffer whose items are the offsets. It is sliced as these are.
     pub fn buffer(&self) -> &Buffer<O>
+        // `numbers`: the storage, the offset and the length are those of the offsets, with each number of the type read
+        // as an integer. `valid`: the items are offsets. No number of the type is above `O.MAX`.
         ensures numbers { numbers_of O.value result.now ≡ self.now }
         ensures valid { AreOffsetsUpTo O.MAX (map O.value (buffer_items result.now)) }
     {
@@ -120,8 +122,8 @@ impl<O: Offset> OffsetsBuffer<O> {
     /// Returns the offsets.
     pub fn as_slice(&self) -> &[O]
         ensures offsets { map O.value result.now ≡ buffer_items self.now }
-        // These three hold for every `OffsetsBuffer`. `by_lengths`: the offsets are the first one, and its sums with
-        // the first length, with the first two, and so on.
+        // `valid`, `by_lengths` and `fits` hold for every `OffsetsBuffer`. `by_lengths`: offset k is the first offset
+        // plus the first k lengths.
         ensures valid { AreOffsets (buffer_items self.now) }
         ensures by_lengths { buffer_items self.now
             ≡ map pos (offsets_list (start_of (buffer_items self.now))
@@ -145,7 +147,7 @@ impl<O: Offset> OffsetsBuffer<O> {
         &self.as_slice()[start..start + len + 1]
     }
 
-    /// Returns how far the last offset is above the first.
+    /// Returns how far the last offset is above the first: the sum of all lengths.
     pub fn range(&self) -> O
         ensures value { O.value result ≡ pos (last_of (buffer_items self.now)
             - start_of (buffer_items self.now)) }
@@ -170,8 +172,8 @@ impl<O: Offset> OffsetsBuffer<O> {
         &offsets[offsets.len() - 1]
     }
 
-    /// Returns where slot `index` starts and where it ends. The end is at most the last offset. Requires that `index`
-    /// is below [`OffsetsBuffer::len_proxy`].
+    /// Returns where slot `index` starts and where it ends: it has the values from the start up to, and without, the
+    /// end. The end is at most the last offset. Requires that `index` is below [`OffsetsBuffer::len_proxy`].
     ///
     /// arrow2's documentation states [`OffsetsBuffer::len`] as the bound.
     pub fn start_end(&self, index: usize) -> (usize, usize)
@@ -185,7 +187,8 @@ impl<O: Offset> OffsetsBuffer<O> {
         slot_span(self.as_slice(), index)
     }
 
-    /// Keeps only the `len` offsets from the one at index `offset` on, over the same storage. Does not allocate.
+    /// Keeps only the `len` offsets from the one at index `offset` on, those of `len - 1` slots, over the same storage.
+    /// Does not allocate.
     ///
     /// Requires that `len` is above 0, and that `offset + len` is at most [`OffsetsBuffer::len`].
     pub fn slice(&mut self, offset: usize, len: usize)
@@ -206,7 +209,8 @@ impl<O: Offset> OffsetsBuffer<O> {
         self.buffer.slice(offset, len);
     }
 
-    /// Returns the `len` offsets from the one at index `offset` on, over the same storage. Does not allocate.
+    /// Returns the `len` offsets from the one at index `offset` on, those of `len - 1` slots, over the same storage.
+    /// Does not allocate.
     ///
     /// Requires what [`OffsetsBuffer::slice`] requires. arrow2 has `slice` alone.
     pub fn sliced(mut self, offset: usize, len: usize) -> Self
@@ -246,15 +250,17 @@ impl<O: Offset> OffsetsBuffer<O> {
         self.slice(start, slots + 1);
     }
 
-    /// Returns an iterator over the lengths of the slots, in order. It can also be read from the back.
+    /// Returns a double-ended iterator over the lengths of the slots, in order.
     pub fn lengths(&self) -> Lengths<'_, O>
         ensures { result ≡ lengths_of (buffer_items self.now) }
     {
         Lengths::new(self.as_slice())
     }
 
-    /// Returns the buffer of the offsets. Does not allocate.
+    /// Returns the buffer whose items are the offsets. It is sliced as these are. Does not allocate.
     pub fn into_inner(self) -> Buffer<O>
+        // `numbers`: the storage, the offset and the length are those of the offsets, with each number of the type read
+        // as an integer. `valid`: the items are offsets. No number of the type is above `O.MAX`.
         ensures numbers { numbers_of O.value result ≡ self }
         ensures valid { AreOffsetsUpTo O.MAX (map O.value (buffer_items result)) }
     {
@@ -269,7 +275,7 @@ impl<O: Offset> OffsetsBuffer<O> {
 ///
 /// Exactly where the items are not offsets: `OutOfSpec` with the text of the first rule of
 /// [`BrokenRule`](crate::BrokenRule) that they break, or `OutOfMemory`. In the code `OutOfMemory` comes only if that
-/// text cannot be allocated. After either error the buffer is dropped.
+/// text cannot be allocated; no clause states that. After either error the buffer is dropped.
 impl<O: Offset> TryFrom<Buffer<O>> for OffsetsBuffer<O> {
     type Error = Error;
 
@@ -309,7 +315,7 @@ impl<O: Offset> TryFrom<Vec<O>> for OffsetsBuffer<O> {
 ///
 /// # Errors
 ///
-/// `OutOfMemory` alone. In the code it comes only where the allocation of the reference count fails; no clause states
+/// Only `OutOfMemory`. In the code it comes only where the allocation of the reference count fails; no clause states
 /// that. After an error the offsets are dropped.
 impl<O: Offset> TryFrom<Offsets<O>> for OffsetsBuffer<O> {
     type Error = Error;

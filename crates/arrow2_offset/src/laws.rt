@@ -45,9 +45,8 @@ pub fn lists_tell_starts_and_lengths_apart()
         offsets_list a ms ≡ offsets_list b ns ↔ ((a ≡ b) × (ms ≡ ns)) }
 {}
 
-/// If `wide` has the same offsets as `narrow`, and `back` the same as `wide`, then `back` and `narrow` are the same
-/// list. So, by the contracts of both conversions of `Offsets` and of both of `OffsetsBuffer`, offsets of 32 bits that
-/// are converted to 64 bits and back are the same list as before, where both succeed.
+/// Converting offsets of 32 bits to 64 bits and back gives the same list, if both conversions succeed. `growing` is
+/// about `Offsets`, `shared` about `OffsetsBuffer`. The premises are what the contracts of the conversions state.
 #[tactic(auto, using(crate::proofs::OffsetLaws::listed))]
 pub fn offsets_converted_back_are_equal()
     ensures growing { (narrow wide back : GrowingOffsets) → SameOffsets narrow wide →

@@ -69,7 +69,7 @@ impl<O: Offset> Offsets<O> {
     ///
     /// # Errors
     ///
-    /// `OutOfMemory` alone.
+    /// Only `OutOfMemory`.
     pub fn new(alloc: Global) -> Result<Self>
         ensures ok { IfOk result (λ o. (o.start ≡ 0) × (o.lengths ≡ [])) }
         ensures only { IfErr result (λ e. e ≡ Error.OutOfMemory) }
@@ -77,12 +77,12 @@ impl<O: Offset> Offsets<O> {
         Offsets::with_capacity(alloc, 0)
     }
 
-    /// Returns the offsets of `len` slots of length 0, from offset 0 on.
+    /// Returns `len + 1` offsets, all 0: those of `len` empty slots.
     ///
     /// # Errors
     ///
-    /// `Overflow` exactly where `len` is `usize::MAX`, since there is one offset more than slots; else `OutOfMemory`
-    /// alone. arrow2 wraps at `usize::MAX`.
+    /// `Overflow` exactly where `len` is `usize::MAX`, since there is one offset more than slots; else only
+    /// `OutOfMemory`. arrow2 wraps at `usize::MAX`.
     pub fn new_zeroed(alloc: Global, len: usize) -> Result<Self>
         ensures ok { IfOk result (λ o. (o.start ≡ 0) × (o.lengths ≡ replicate len 0)) }
         ensures overflow { IsErrOf result Error.Overflow ↔ (2 ^ 64 ≤ len + 1) }
@@ -98,7 +98,7 @@ impl<O: Offset> Offsets<O> {
     /// # Errors
     ///
     /// `Overflow` exactly where `capacity` is `usize::MAX`, since there is one offset more than lengths; else
-    /// `OutOfMemory` alone. arrow2 wraps at `usize::MAX`.
+    /// only `OutOfMemory`. arrow2 wraps at `usize::MAX`.
     pub fn with_capacity(alloc: Global, capacity: usize) -> Result<Self>
         ensures ok { IfOk result (λ o. (o.start ≡ 0) × (o.lengths ≡ [])) }
         ensures capacity { IfOk result (λ o. capacity ≤ o.capacity) }
@@ -123,7 +123,8 @@ impl<O: Offset> Offsets<O> {
     /// `O::MAX`.
     pub fn try_from_iter<I: IntoIterator<Item = usize>>(alloc: Global, iter: I) -> Result<Self>
         requires { IsFiniteIterable I.into_iter_gives I.IntoIter.can_next I.IntoIter.remaining iter }
-        // The lengths are those of a run: all items that the iterator yields up to `None`.
+        // `it` is an iterator that `iter` may turn into, and `p` a run of it: calls of `next` up to the first `None`.
+        // The lengths are the items of `p`.
         ensures ok { IfOk result (λ o. (it : I.IntoIter) × I.into_iter_gives iter it
             × WholeRun I.IntoIter.next_gives it (λ p. (o.start ≡ 0) × (o.lengths ≡ p.items))) }
         ensures fits { IfOk result (λ o. last_of_growing o ≤ O.MAX) }
@@ -176,8 +177,9 @@ impl<O: Offset> Offsets<O> {
     ///
     /// # Errors
     ///
-    /// `OutOfMemory` alone, also where a `usize` cannot count the offsets. After an error, the offsets are as they
-    /// were.
+    /// Only `OutOfMemory`, and only where the number of slots plus `additional` passes the capacity. It also comes
+    /// where a `usize` cannot count the offsets. After an error, the offsets are as they were. The capacity never
+    /// falls.
     pub fn reserve(&mut self, additional: usize) -> Result<()>
         // The offsets stay. After `Ok`, `additional` more lengths fit.
         ensures items { SameOffsets self.old self.new }
@@ -206,7 +208,8 @@ impl<O: Offset> Offsets<O> {
         Ok(())
     }
 
-    /// Appends one length. Requires that the length is not negative. Below the capacity it does not allocate.
+    /// Appends one length. Requires that the length is not negative. Does not allocate where the number of slots is
+    /// below the capacity.
     ///
     /// arrow2's documentation requires a length above 0.
     ///
@@ -224,7 +227,7 @@ impl<O: Offset> Offsets<O> {
         Ok(())
     }
 
-    /// Appends one length. Below the capacity it does not allocate.
+    /// Appends one length. Does not allocate where the number of slots is below the capacity.
     ///
     /// # Errors
     ///
@@ -267,7 +270,7 @@ impl<O: Offset> Offsets<O> {
     ///
     /// # Errors
     ///
-    /// `Overflow` exactly where the last offset plus the sum of the lengths exceeds `O::MAX`, else `OutOfMemory` alone,
+    /// `Overflow` exactly where the last offset plus the sum of the lengths exceeds `O::MAX`, else only `OutOfMemory`,
     /// and only where the new number of lengths passes the capacity. After either error, the offsets are as they were.
     /// The capacity never falls.
     pub fn try_extend_from_self(&mut self, other: &Self) -> Result<()>
@@ -278,15 +281,15 @@ impl<O: Offset> Offsets<O> {
     }
 
     /// Appends `len` lengths of other offsets, those of the slots from slot `start` on. Requires that `len` is 0, or
-    /// that `start + len` is below the number of the other's offsets. Within the capacity it does not allocate.
+    /// that `start + len` is at most `other.len_proxy()`: both count slots. Within the capacity it does not allocate.
     ///
     /// Differs from arrow2, which tests the other's last offset instead of the sum of the lengths.
     ///
     /// # Errors
     ///
-    /// `Overflow` exactly where the last offset plus the sum of these lengths exceeds `O::MAX`, else `OutOfMemory`
-    /// alone, and only where the new number of lengths passes the capacity. After either error, the offsets are as they
-    /// were. The capacity never falls.
+    /// `Overflow` exactly where the last offset plus the sum of these lengths exceeds `O::MAX`, else only
+    /// `OutOfMemory`, and only where the new number of lengths passes the capacity. After either error, the offsets are
+    /// as they were. The capacity never falls.
     pub fn try_extend_from_slice(
         &mut self,
         other: &OffsetsBuffer<O>,
@@ -307,11 +310,12 @@ impl<O: Offset> Offsets<O> {
         Ok(())
     }
 
-    /// Appends `additional` lengths, each of them 0. Within the capacity it does not allocate.
+    /// Appends `additional` lengths, each of them 0: the last offset comes `additional` times more. Within the capacity
+    /// it does not allocate.
     ///
     /// # Errors
     ///
-    /// `Overflow` exactly where the number of offsets would pass `usize::MAX`, else `OutOfMemory` alone, and only where
+    /// `Overflow` exactly where the number of offsets would pass `usize::MAX`, else only `OutOfMemory`, and only where
     /// the new number of lengths passes the capacity. After either error, the offsets are as they were. The capacity
     /// never falls. In arrow2 the number of offsets wraps, and the list is cut to the wrapped number of offsets.
     pub fn extend_constant(&mut self, additional: usize) -> Result<()>
@@ -335,8 +339,8 @@ impl<O: Offset> Offsets<O> {
         &self.offsets[self.offsets.len() - 1]
     }
 
-    /// Returns where slot `index` starts and where it ends. The end is at most the last offset. Requires that `index`
-    /// is below [`Offsets::len_proxy`].
+    /// Returns where slot `index` starts and where it ends: it has the values from the start up to, and without, the
+    /// end. The end is at most the last offset. Requires that `index` is below [`Offsets::len_proxy`].
     ///
     /// arrow2's documentation states [`Offsets::len`] as the bound.
     pub fn start_end(&self, index: usize) -> (usize, usize)
@@ -505,7 +509,7 @@ impl<O: Offset> Offsets<O> {
 ///
 /// Exactly where the items are not offsets: `OutOfSpec` with the text of the first rule of
 /// [`BrokenRule`](crate::BrokenRule) that they break, or `OutOfMemory`. In the code `OutOfMemory` comes only if that
-/// text cannot be allocated. After either error the vector is dropped.
+/// text cannot be allocated; no clause states that. After either error the vector is dropped.
 impl<O: Offset> TryFrom<Vec<O>> for Offsets<O> {
     type Error = Error;
 

@@ -4,7 +4,7 @@
 ghost use Rattle.std.specs.Prelude.{◌≡◌, length};
 ghost use Rattle.arrow2_offset.specs.Offsets.{AreOffsetsUpTo};
 
-/// Writes the same numbers, in 64 bits each. Requires slices of equal length.
+/// Writes the numbers to `out`, in 64 bits each. Requires slices of equal length.
 pub fn write_wide(numbers: &[i32], out: &mut [i64])
     requires same_length { length out.old ≡ length numbers.now }
     ensures { out.new ≡ numbers.now }
@@ -14,7 +14,8 @@ pub fn write_wide(numbers: &[i32], out: &mut [i64])
     }
 }
 
-/// Writes the same offsets, in 32 bits each. Requires slices of equal length, and offsets that fit 32 bits.
+/// Writes the offsets to `out`, in 32 bits each. Requires slices of equal length, and that no offset is above
+/// `i32::MAX`.
 pub fn write_narrow(offsets: &[i64], out: &mut [i32])
     requires same_length { length out.old ≡ length offsets.now }
     requires fits { AreOffsetsUpTo 2147483647 offsets.now }

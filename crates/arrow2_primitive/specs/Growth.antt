@@ -1,6 +1,5 @@
 -- The contract of growth of an array.
-use Rattle.std.specs.Prelude.{◌≡◌, ◌+◌, ◌≤◌, ◌^◌, ◌↔◌, ◌⊎◌, ◌-◌, List, ◌++◌, Option, Some, length, Result, OnOk, OnErr, IsOk, IfErr, IsErrOf}
-use Rattle.std.specs.Iterator.{YieldsThen}
+use Rattle.std.specs.Prelude.{◌≡◌, ◌+◌, ◌≤◌, ◌^◌, ◌↔◌, ◌⊎◌, List, ◌++◌, Option, length, Result, OnOk, OnErr, IsOk, IfErr, IsErrOf}
 use Rattle.arrow2_types.specs.declared.error.Error.{Error}
 use Rattle.arrow2_types.specs.declared.error.Error.TheVariants.{Overflow, OutOfMemory}
 use Rattle.arrow2_primitive.specs.Primitive.{GrowingPrimitive}
@@ -21,7 +20,3 @@ pub record AppendsItems {T X : Type 0} (r : Result T Error) (old new : GrowingPr
   pub succeeds : length old.items + length more ≤ old.capacity → IsOk r
   -- the capacity never falls
   pub capacity : old.capacity ≤ new.capacity
-
--- an iterator may give 2 ^ 64 - 1 items, and one more
-abbrev pub MayYieldTooManyItems : {S X : Type 0} → (S → Option X → S → Type 0) → S → Type 0
-MayYieldTooManyItems {S} {X} steps s = (xs : List X) × (x : X) × (t : S) × YieldsThen steps s xs (Some x) t × (length xs ≡ 2 ^ 64 - 1)

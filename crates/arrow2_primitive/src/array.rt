@@ -17,7 +17,7 @@ ghost use Rattle.arrow2_datatypes.specs.Types.{of_primitive, physical};
 ghost use Rattle.arrow2_datatypes.specs.declared.physical_type.PhysicalType.TheVariants.{Primitive};
 ghost use Rattle.arrow2_primitive.specs.Primitive.{PrimitiveParts, primitive_items, sliced_primitive, other_layout_message};
 
-use crate::iterator::{NonNullValuesIter, PrimitiveIter};
+use crate::iterator::PrimitiveIter;
 use crate::mutable::MutablePrimitiveArray;
 use arrow2_bitmap::Bitmap;
 use arrow2_buffer::Buffer;
@@ -25,6 +25,7 @@ use arrow2_datatypes::DataType;
 use arrow2_datatypes::laws::a_native_type_is_laid_out_as_itself;
 use arrow2_types::{Error, NativeType, Result};
 use arrow2_validity::Validity;
+use arrow2_walks::{ArrayIter, NonNullValuesIter};
 use either::Either;
 use std::alloc::{AllocError, Global};
 use std::convert::TryFrom;
@@ -93,6 +94,8 @@ impl<T: NativeType> PrimitiveArray<T> {
     /// - the physical type of `data_type` is not that of `T`.
     ///
     /// Otherwise the only error is `OutOfMemory`. After an error the arguments are dropped.
+    ///
+    /// Differs from arrow2, which returns `OutOfSpec` in place of `InvalidArgumentError`.
     pub fn try_new(
         data_type: DataType,
         values: Buffer<T>,
@@ -126,6 +129,8 @@ impl<T: NativeType> PrimitiveArray<T> {
     /// Returns the array of these values, each null where the validity is false. Without a validity none is null.
     /// Requires that the physical type of `data_type` is that of `T`, and that the validity, if there is one, has the
     /// length of the values. Does not allocate.
+    ///
+    /// Differs from arrow2, which takes a `DataType`, and panics where `try_new` fails.
     pub fn new(
         data_type: Rc<DataType>,
         values: Buffer<T>,
@@ -147,12 +152,12 @@ impl<T: NativeType> PrimitiveArray<T> {
         }
     }
 
-    /// Returns an array of these values, over their storage. No item is null. The logical type is the one that belongs
-    /// to `T`, `DataType::from(T::PRIMITIVE)`.
+    /// Returns an array of these values. They are moved and not copied, which no clause states. No item is null. The
+    /// logical type is the one that belongs to `T`, `DataType::from(T::PRIMITIVE)`.
     ///
     /// # Errors
     ///
-    /// `OutOfMemory` alone. The values are then dropped.
+    /// Only `OutOfMemory`. The values are then dropped.
     pub fn from_vec(values: Vec<T>) -> Result<PrimitiveArray<T>>
         ensures items { IfOk result (λ a. primitive_items a ≡ map (λ x. Some x) values.items) }
         ensures data_type { IfOk result (λ a. a.data_type ≡ of_primitive T.PRIMITIVE) }
@@ -169,7 +174,7 @@ impl<T: NativeType> PrimitiveArray<T> {
     ///
     /// # Errors
     ///
-    /// `OutOfMemory` alone.
+    /// Only `OutOfMemory`.
     pub fn from_slice(alloc: Global, values: &[T]) -> Result<PrimitiveArray<T>>
         ensures items { IfOk result (λ a. primitive_items a ≡ map (λ x. Some x) values.now) }
         ensures data_type { IfOk result (λ a. a.data_type ≡ of_primitive T.PRIMITIVE) }
@@ -187,7 +192,7 @@ impl<T: NativeType> PrimitiveArray<T> {
     ///
     /// # Errors
     ///
-    /// `OutOfMemory` alone.
+    /// Only `OutOfMemory`.
     pub fn from_options(alloc: Global, items: &[Option<T>]) -> Result<PrimitiveArray<T>>
         ensures items { IfOk result (λ a. primitive_items a ≡ items.now) }
         ensures data_type { IfOk result (λ a. a.data_type ≡ of_primitive T.PRIMITIVE) }
@@ -286,7 +291,7 @@ impl<T: NativeType> PrimitiveArray<T> {
     }
 
     /// Returns the [`Validity`]: the array's length and an optional bitmap. Its methods work with and without a bitmap,
-    /// so that a caller needs no branch.
+    /// so that a caller needs no branch. arrow2 has no such call.
     pub fn optional_validity(&self) -> &Validity
         ensures value { result.now ≡ self.now.validity }
         ensures items { valid_items result.now ≡ map is_some (primitive_items self.now) }
@@ -296,21 +301,21 @@ impl<T: NativeType> PrimitiveArray<T> {
         &self.validity
     }
 
-    /// Returns an iterator over the items, from both ends.
+    /// Returns a double-ended iterator over the items.
     pub fn iter(&self) -> PrimitiveIter<'_, T>
         ensures { result ≡ primitive_items self.now }
     {
-        PrimitiveIter::new(self)
+        ArrayIter::new(self)
     }
 
     /// Returns an iterator over the values that are not null, in their order.
-    pub fn non_null_values_iter(&self) -> NonNullValuesIter<'_, T>
+    pub fn non_null_values_iter(&self) -> NonNullValuesIter<&PrimitiveArray<T>>
         ensures { result ≡ non_null_values (primitive_items self.now) }
     {
         NonNullValuesIter::new(self)
     }
 
-    /// Returns an iterator over the values, those under nulls too.
+    /// Returns a double-ended iterator over the stored values, those under nulls too.
     pub fn values_iter(&self) -> Iter<'_, T>
         ensures { iter_rest result ≡ buffer_items self.now.values }
     {
@@ -373,7 +378,7 @@ impl<T: NativeType> PrimitiveArray<T> {
     ///
     /// # Errors
     ///
-    /// `OutOfMemory` alone; the array is then dropped. It is proved that this error comes only if the values are not
+    /// Only `OutOfMemory`; the array is then dropped. It is proved that this error comes only if the values are not
     /// sliced. In the code, but not proved, it comes only if the values have no other owner, and one of these holds:
     ///
     /// - there is no bitmap;
@@ -414,7 +419,9 @@ impl<T: NativeType> PrimitiveArray<T> {
         }
     }
 
-    /// Returns the logical type, the values and the validity bitmap.
+    /// Returns the logical type, the values and the validity bitmap. Does not allocate.
+    ///
+    /// Differs from arrow2, which returns the `DataType` itself.
     pub fn into_inner(self) -> (Rc<DataType>, Buffer<T>, Option<Bitmap>)
         ensures data_type { result.0.value ≡ self.data_type }
         ensures values { result.1 ≡ self.values }

@@ -9,5 +9,5 @@ mod mutable;
 mod type_text;
 
 pub use array::PrimitiveArray;
-pub use iterator::{NonNullValuesIter, PrimitiveIter};
+pub use iterator::PrimitiveIter;
 pub use mutable::MutablePrimitiveArray;

@@ -7,10 +7,11 @@ ghost use Rattle.arrow2_datatypes.specs.Types.{of_primitive, physical};
 ghost use Rattle.arrow2_datatypes.specs.declared.physical_type.PhysicalType.TheVariants.{Primitive};
 ghost use Rattle.arrow2_model.specs.Buffers.{buffer_items, whole_buffer};
 ghost use Rattle.arrow2_model.specs.Parts.{part};
+ghost use Rattle.arrow2_bitmap.specs.Iterators.{MayYieldTooMany};
 ghost use Rattle.arrow2_bitmap.specs.PackedBitmaps.{IsPacked};
 ghost use Rattle.arrow2_types.specs.declared.growth_error.GrowthError.TheVariants as growth_error;
 ghost use Rattle.arrow2_walks.specs.Zipped.{zipped};
-ghost use Rattle.arrow2_primitive.specs.Growth.{AppendsItems, MayYieldTooManyItems};
+ghost use Rattle.arrow2_primitive.specs.Growth.{AppendsItems};
 ghost use Rattle.arrow2_primitive.specs.Primitive.{primitive_items, GrowingPrimitive};
 
 use crate::array::{PrimitiveArray, native_type};
@@ -84,7 +85,7 @@ impl<T: NativeType> MutablePrimitiveArray<T> {
     ///
     /// # Errors
     ///
-    /// `OutOfMemory` alone.
+    /// Only `OutOfMemory`.
     pub fn new(alloc: Global) -> Result<MutablePrimitiveArray<T>>
         ensures items { IfOk result (λ a. a.items ≡ []) }
         ensures data_type { IfOk result (λ a. a.data_type ≡ of_primitive T.PRIMITIVE) }
@@ -99,7 +100,7 @@ impl<T: NativeType> MutablePrimitiveArray<T> {
     ///
     /// # Errors
     ///
-    /// `OutOfMemory` alone.
+    /// Only `OutOfMemory`.
     pub fn with_capacity(alloc: Global, capacity: usize) -> Result<MutablePrimitiveArray<T>>
         ensures items { IfOk result (λ a. a.items ≡ []) }
         ensures capacity { IfOk result (λ a. capacity ≤ a.capacity) }
@@ -129,11 +130,11 @@ impl<T: NativeType> MutablePrimitiveArray<T> {
     }
 
     /// Returns an array without items that shares the logical type of `array`. Does not allocate. It fails only if the
-    /// reference count of the `Rc` would overflow, which no clause states.
+    /// reference count of the `Rc` would overflow, which no clause states. arrow2 has no such call.
     ///
     /// # Errors
     ///
-    /// `OutOfMemory` alone.
+    /// Only `OutOfMemory`.
     pub fn like(array: &PrimitiveArray<T>) -> Result<MutablePrimitiveArray<T>>
         ensures items { IfOk result (λ a. a.items ≡ []) }
         ensures data_type { IfOk result (λ a. a.data_type ≡ array.now.data_type) }
@@ -164,7 +165,7 @@ impl<T: NativeType> MutablePrimitiveArray<T> {
         ensures data_type { IfOk result (λ a. a.data_type ≡ of_primitive T.PRIMITIVE) }
         // `Overflow` comes only where a run may have too many items.
         ensures overflow { IsErrOf result Error.Overflow →
-            (it : I.IntoIter) × I.into_iter_gives iter it × MayYieldTooManyItems I.IntoIter.next_gives it }
+            (it : I.IntoIter) × I.into_iter_gives iter it × MayYieldTooMany I.IntoIter.next_gives it }
         ensures only { IfErr result (λ e. (e ≡ Error.Overflow) ⊎ (e ≡ Error.OutOfMemory)) }
     {
         MutablePrimitiveArray::collect_items(alloc, iter.into_iter())
@@ -179,7 +180,7 @@ impl<T: NativeType> MutablePrimitiveArray<T> {
         requires ends { IsFinite (I.remaining items) }
         ensures items { IfOk result (λ a. WholeRun I.next_gives items (λ p. a.items ≡ p.items)) }
         ensures data_type { IfOk result (λ a. a.data_type ≡ of_primitive T.PRIMITIVE) }
-        ensures overflow { IsErrOf result Error.Overflow → MayYieldTooManyItems I.next_gives items }
+        ensures overflow { IsErrOf result Error.Overflow → MayYieldTooMany I.next_gives items }
         ensures only { IfErr result (λ e. (e ≡ Error.Overflow) ⊎ (e ≡ Error.OutOfMemory)) }
     {
         let mut array = MutablePrimitiveArray::new(alloc)?;
@@ -242,7 +243,7 @@ impl<T: NativeType> MutablePrimitiveArray<T> {
     ///
     /// # Errors
     ///
-    /// `Overflow` exactly where the sum of the length and `additional` passes `usize::MAX`, else `OutOfMemory` alone.
+    /// `Overflow` exactly where the sum of the length and `additional` passes `usize::MAX`, else only `OutOfMemory`.
     /// After either error, the array holds the items that it held.
     pub fn reserve(&mut self, additional: usize) -> Result<()>
         // The items and the logical type are as before. After `Ok`, `additional` more items fit the capacity.
@@ -266,7 +267,7 @@ impl<T: NativeType> MutablePrimitiveArray<T> {
     ///
     /// # Errors
     ///
-    /// `Overflow` exactly where the length is `usize::MAX`, else `OutOfMemory` alone. After either error, the array
+    /// `Overflow` exactly where the length is `usize::MAX`, else only `OutOfMemory`. After either error, the array
     /// holds the items that it held.
     pub fn push(&mut self, item: Option<T>) -> Result<()>
         ensures { AppendsItems result self.old self.new (item ∷ []) }
@@ -284,7 +285,7 @@ impl<T: NativeType> MutablePrimitiveArray<T> {
     ///
     /// # Errors
     ///
-    /// `Overflow` exactly where the length is `usize::MAX`, else `OutOfMemory` alone. After either error, the array
+    /// `Overflow` exactly where the length is `usize::MAX`, else only `OutOfMemory`. After either error, the array
     /// holds the items that it held.
     pub fn push_null(&mut self) -> Result<()>
         ensures { AppendsItems result self.old self.new (None ∷ []) }
@@ -296,7 +297,7 @@ impl<T: NativeType> MutablePrimitiveArray<T> {
     ///
     /// # Errors
     ///
-    /// `Overflow` exactly where the new length would pass `usize::MAX`, else `OutOfMemory` alone. After either error,
+    /// `Overflow` exactly where the new length would pass `usize::MAX`, else only `OutOfMemory`. After either error,
     /// the array holds the items that it held.
     pub fn extend_from_slice(&mut self, values: &[T]) -> Result<()>
         ensures { AppendsItems result self.old self.new (map (λ x. Some x) values.now) }
@@ -309,9 +310,11 @@ impl<T: NativeType> MutablePrimitiveArray<T> {
 
     /// Appends items. Within the capacity it does not allocate, else it allocates before it writes.
     ///
+    /// Stands for arrow2's `extend_trusted_len`, which takes an iterator.
+    ///
     /// # Errors
     ///
-    /// `Overflow` exactly where the new length would pass `usize::MAX`, else `OutOfMemory` alone. After either error,
+    /// `Overflow` exactly where the new length would pass `usize::MAX`, else only `OutOfMemory`. After either error,
     /// the array holds the items that it held.
     pub fn extend_from_options(&mut self, items: &[Option<T>]) -> Result<()>
         ensures { AppendsItems result self.old self.new items.now }
@@ -327,7 +330,7 @@ impl<T: NativeType> MutablePrimitiveArray<T> {
     ///
     /// # Errors
     ///
-    /// `Overflow` exactly where the new length would pass `usize::MAX`, else `OutOfMemory` alone. After either error,
+    /// `Overflow` exactly where the new length would pass `usize::MAX`, else only `OutOfMemory`. After either error,
     /// the array holds the items that it held.
     pub fn extend_constant(&mut self, additional: usize, item: Option<T>) -> Result<()>
         ensures { AppendsItems result self.old self.new (replicate additional item) }
@@ -343,9 +346,11 @@ impl<T: NativeType> MutablePrimitiveArray<T> {
     /// Appends the `len` items of `array` from item `start` on. Requires that `start + len` is at most the length of
     /// `array`. Within the capacity it does not allocate.
     ///
+    /// In arrow2 this call is in `growable`.
+    ///
     /// # Errors
     ///
-    /// `Overflow` exactly where the new length would pass `usize::MAX`, else `OutOfMemory` alone. After either error,
+    /// `Overflow` exactly where the new length would pass `usize::MAX`, else only `OutOfMemory`. After either error,
     /// the array holds the items that it held.
     pub fn extend_from_array(
         &mut self,
@@ -366,6 +371,8 @@ impl<T: NativeType> MutablePrimitiveArray<T> {
     }
 
     /// Removes the last item and returns it: `Some(None)` for a null, and `None` where there is no item.
+    ///
+    /// Differs from arrow2, which returns `None` in both cases.
     pub fn pop(&mut self) -> Option<Option<T>>
         ensures last { MatchOption result (self.old.items ≡ []) (λ item.
             self.old.items ≡ self.new.items ++ item ∷ []) }
@@ -379,7 +386,7 @@ impl<T: NativeType> MutablePrimitiveArray<T> {
     }
 
     /// Frees all capacity where there is no item. Else frees unused capacity if the allocator can; no clause states
-    /// that any is freed. Always returns `Ok`.
+    /// that any is freed. Always returns `Ok`. arrow2 returns no `Result`.
     pub fn shrink_to_fit(&mut self) -> Result<()>
         ensures ok { IsOk result }
         ensures items { self.new.items ≡ self.old.items }
@@ -399,7 +406,7 @@ impl<T: NativeType> MutablePrimitiveArray<T> {
     ///
     /// # Errors
     ///
-    /// `OutOfMemory` alone. The items are then dropped.
+    /// Only `OutOfMemory`. The items are then dropped.
     pub fn freeze(self) -> Result<PrimitiveArray<T>>
         ensures items { IfOk result (λ a. primitive_items a ≡ self.items) }
         ensures data_type { IfOk result (λ a. a.data_type ≡ self.data_type) }

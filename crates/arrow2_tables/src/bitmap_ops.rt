@@ -25,7 +25,7 @@ use arrow2_types::{Error, Result};
 ///
 /// # Errors
 ///
-/// `OutOfMemory` alone.
+/// Only `OutOfMemory`.
 pub fn ternary<F: Fn(u64, u64, u64) -> u64>(
     a1: &Bitmap,
     a2: &Bitmap,
@@ -85,7 +85,7 @@ pub fn ternary<F: Fn(u64, u64, u64) -> u64>(
 ///
 /// # Errors
 ///
-/// `OutOfMemory` alone.
+/// Only `OutOfMemory`.
 pub fn quaternary<F: Fn(u64, u64, u64, u64) -> u64>(
     a1: &Bitmap,
     a2: &Bitmap,
@@ -149,7 +149,7 @@ fn pair<'a>(left: &'a Bitmap, right: &'a Bitmap) -> Pair<'a>
 ///
 /// # Errors
 ///
-/// `OutOfMemory` alone.
+/// Only `OutOfMemory`.
 pub fn ternary_table(a1: &Bitmap, a2: &Bitmap, a3: &Bitmap, t: u8) -> Result<Bitmap>
     requires same_length2 { length (items_of a1.now) ≡ length (items_of a2.now) }
     requires same_length3 { length (items_of a1.now) ≡ length (items_of a3.now) }
@@ -169,7 +169,7 @@ pub fn ternary_table(a1: &Bitmap, a2: &Bitmap, a3: &Bitmap, t: u8) -> Result<Bit
 ///
 /// # Errors
 ///
-/// `OutOfMemory` alone.
+/// Only `OutOfMemory`.
 pub fn quaternary_table(
     a1: &Bitmap,
     a2: &Bitmap,

@@ -16,9 +16,7 @@ ghost use Rattle.arrow2_text.specs.Growth.{bytes_of_items, items_by_bytes};
 ghost use Rattle.arrow2_text.specs.Failures.{RejectsParts, other_binary_layout_message, past_the_values_message};
 
 use crate::checks::{binary_type, check_binary};
-use crate::iterator::{
-    ArrayIter, ArrayNonNullValuesIter, ArrayValuesIter, BinaryIter, BinaryValueIter,
-};
+use crate::iterator::{BinaryIter, BinaryValueIter};
 use crate::mutable_binary::MutableBinaryArray;
 use crate::slots::Slots;
 use arrow2_bitmap::Bitmap;
@@ -28,6 +26,7 @@ use arrow2_index::Offset;
 use arrow2_offset::OffsetsBuffer;
 use arrow2_types::{Error, Result};
 use arrow2_validity::Validity;
+use arrow2_walks::{ArrayIter, ArrayValuesIter, NonNullValuesIter};
 use either::Either;
 use std::alloc::{AllocError, Global};
 use std::marker::Model;
@@ -64,8 +63,8 @@ impl<O: Offset> Model for BinaryArray<O> {
 }
 
 impl<O: Offset> BinaryArray<O> {
-    /// Returns the array of these parts: slot i has the bytes from offset i to offset i + 1, and is null where bit i of
-    /// the validity is unset. Without a validity no slot is null.
+    /// Returns the array of these parts: slot i has the bytes from byte `offsets[i]` up to, and without, byte
+    /// `offsets[i + 1]`, and is null where bit i of the validity is unset. Without a validity no slot is null.
     ///
     /// # Errors
     ///
@@ -78,6 +77,8 @@ impl<O: Offset> BinaryArray<O> {
     ///   bits.
     ///
     /// If none holds, the only error is `OutOfMemory`. After an error the parts are dropped.
+    ///
+    /// Differs from arrow2, which returns `OutOfSpec` in place of `InvalidArgumentError`.
     pub fn try_new(
         data_type: DataType,
         offsets: OffsetsBuffer<O>,
@@ -99,10 +100,12 @@ impl<O: Offset> BinaryArray<O> {
         })
     }
 
-    /// Returns the array of these parts: slot i has the bytes from offset i to offset i + 1, and is null where bit i of
-    /// the validity is unset. Without a validity no slot is null. Requires that the physical type of `data_type` is
-    /// `Binary`, or `LargeBinary` where `O` has 64 bits, that the last offset is not past the values, and that the
-    /// validity, if there is one, has a bit for each slot. Does not allocate.
+    /// Returns the array of these parts: slot i has the bytes from byte `offsets[i]` up to, and without, byte
+    /// `offsets[i + 1]`, and is null where bit i of the validity is unset. Without a validity no slot is null. Requires
+    /// that the physical type of `data_type` is `Binary`, or `LargeBinary` where `O` has 64 bits, that the last offset
+    /// is not past the values, and that the validity, if there is one, has a bit for each slot. Does not allocate.
+    ///
+    /// Differs from arrow2, which takes a `DataType`, and panics where `try_new` fails.
     pub fn new(
         data_type: Rc<DataType>,
         offsets: OffsetsBuffer<O>,
@@ -144,7 +147,8 @@ impl<O: Offset> BinaryArray<O> {
         binary_type::<O>()
     }
 
-    /// Returns an array of a copy of these byte strings. No item is null.
+    /// Returns an array of a copy of these byte strings. No item is null, and there is no validity bitmap. The logical
+    /// type is `Binary`, or `LargeBinary` where `O` has 64 bits.
     ///
     /// # Errors
     ///
@@ -166,9 +170,10 @@ impl<O: Offset> BinaryArray<O> {
         array.freeze()
     }
 
-    /// Returns an array of a copy of these items. The array has a validity bitmap exactly if an item is null.
+    /// Returns an array of a copy of these items. The array has a validity bitmap exactly if an item is null. The
+    /// logical type is `Binary`, or `LargeBinary` where `O` has 64 bits.
     ///
-    /// Replaces arrow2's `from`, which takes a slice.
+    /// Stands for arrow2's `from`, which takes a slice.
     ///
     /// # Errors
     ///
@@ -286,7 +291,7 @@ impl<O: Offset> BinaryArray<O> {
     }
 
     /// Returns the [`Validity`]: the array's length and an optional bitmap. Its methods work with and without a bitmap,
-    /// so that a caller needs no branch.
+    /// so that a caller needs no branch. arrow2 has no such call.
     pub fn optional_validity(&self) -> &Validity
         ensures value { result.now ≡ self.now.validity }
         ensures len { length (valid_items result.now) ≡ length (binary_items self.now) }
@@ -296,7 +301,7 @@ impl<O: Offset> BinaryArray<O> {
         self.slots.validity()
     }
 
-    /// Returns an iterator over the items, from both ends.
+    /// Returns a double-ended iterator over the items.
     pub fn iter(&self) -> BinaryIter<'_, O>
         ensures { result ≡ binary_items self.now }
     {
@@ -304,13 +309,13 @@ impl<O: Offset> BinaryArray<O> {
     }
 
     /// Returns an iterator over the byte strings that are not null, in their order.
-    pub fn non_null_values_iter(&self) -> ArrayNonNullValuesIter<&BinaryArray<O>>
+    pub fn non_null_values_iter(&self) -> NonNullValuesIter<&BinaryArray<O>>
         ensures { result ≡ non_null_values (binary_items self.now) }
     {
-        ArrayNonNullValuesIter::new(self)
+        NonNullValuesIter::new(self)
     }
 
-    /// Returns an iterator over the byte strings, those under nulls too, from both ends.
+    /// Returns a double-ended iterator over the byte strings, those under nulls too.
     pub fn values_iter(&self) -> BinaryValueIter<'_, O>
         ensures { result ≡ binary_values self.now }
     {
@@ -369,7 +374,7 @@ impl<O: Offset> BinaryArray<O> {
     ///
     /// # Errors
     ///
-    /// `OutOfMemory` alone, and only where the offsets are not sliced, begin at 0 and end after the last byte. The
+    /// Only `OutOfMemory`, and only where the offsets are not sliced, begin at 0 and end after the last byte. The
     /// array is then dropped. In the code it comes only if the offsets also have no other owner, and one of these
     /// holds:
     ///
@@ -393,7 +398,9 @@ impl<O: Offset> BinaryArray<O> {
         }
     }
 
-    /// Returns the logical type, the offsets, the bytes and the validity bitmap.
+    /// Returns the logical type, the offsets, the bytes and the validity bitmap. Does not allocate.
+    ///
+    /// Differs from arrow2, which returns the `DataType` itself.
     pub fn into_inner(self) -> (Rc<DataType>, OffsetsBuffer<O>, Buffer<u8>, Option<Bitmap>)
         ensures data_type { result.0.value ≡ self.data_type }
         ensures offsets { result.1 ≡ self.offsets }

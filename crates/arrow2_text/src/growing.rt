@@ -324,8 +324,9 @@ impl<O: Offset> Growing<O> {
         Ok(())
     }
 
-    /// Appends an item `additional` times. Requires spare capacity for so many slots and for their bytes, that the last
-    /// offset plus the number of these bytes is at most `O::MAX`, and that a `usize` can count the slots afterwards.
+    /// Appends an item `additional` times. Requires spare capacity for that many slots and for their bytes, that the
+    /// last offset plus the number of these bytes is at most `O::MAX`, and that a `usize` can count the slots
+    /// afterwards.
     fn repeat_reserved(&mut self, additional: usize, item: Option<&[u8]>)
         requires spare { HasCapacityFor O.MAX self.old additional
             (additional * option_map_or length (option_copied item) 0) }

@@ -14,10 +14,7 @@ mod slots;
 mod utf8;
 
 pub use binary::BinaryArray;
-pub use iterator::{
-    ArrayAccessor, ArrayIter, ArrayNonNullValuesIter, ArrayValuesIter, BinaryIter, BinaryValueIter,
-    Utf8Iter, Utf8ValuesIter,
-};
+pub use iterator::{BinaryIter, BinaryValueIter, Bytes, Utf8Iter, Utf8ValuesIter};
 pub use mutable_binary::MutableBinaryArray;
 pub use mutable_utf8::MutableUtf8Array;
 pub use utf8::Utf8Array;

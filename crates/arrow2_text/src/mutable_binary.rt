@@ -61,7 +61,7 @@ impl<O: Offset> MutableBinaryArray<O> {
     ///
     /// # Errors
     ///
-    /// `OutOfMemory` alone.
+    /// Only `OutOfMemory`.
     pub fn new(alloc: Global) -> Result<MutableBinaryArray<O>>
         ensures data_type { IfOk result (λ a. a.data_type ≡ default_binary O.IS_LARGE) }
         ensures items { IfOk result (λ a. (a.items ≡ []) × (a.bytes ≡ 0)) }
@@ -76,7 +76,7 @@ impl<O: Offset> MutableBinaryArray<O> {
     /// # Errors
     ///
     /// `Overflow` exactly where `capacity` is `usize::MAX`, since there is one offset more than there are items; else
-    /// `OutOfMemory` alone.
+    /// only `OutOfMemory`.
     pub fn with_capacity_from(
         alloc: Global,
         data_type: Rc<DataType>,
@@ -103,7 +103,7 @@ impl<O: Offset> MutableBinaryArray<O> {
     /// # Errors
     ///
     /// `Overflow` exactly where `capacity` is `usize::MAX`, since there is one offset more than there are items; else
-    /// `OutOfMemory` alone.
+    /// only `OutOfMemory`.
     pub fn with_capacity(
         alloc: Global,
         capacity: usize,
@@ -127,7 +127,7 @@ impl<O: Offset> MutableBinaryArray<O> {
     ///
     /// # Errors
     ///
-    /// `OutOfMemory` alone. The array then holds the items that it held.
+    /// Only `OutOfMemory`. The array then holds the items that it held.
     pub fn pop(&mut self) -> Result<Option<Option<Vec<u8>>>>
         ensures { PopsBinary (λ value. value.items) result self.old self.new }
     {
@@ -235,7 +235,7 @@ impl<O: Offset> MutableBinaryArray<O> {
     ///
     /// # Errors
     ///
-    /// `Overflow` exactly where the sum of the length and `additional` passes `usize::MAX`, else `OutOfMemory` alone.
+    /// `Overflow` exactly where the sum of the length and `additional` passes `usize::MAX`, else only `OutOfMemory`.
     /// After either error, the array holds the items that it held.
     pub fn reserve(&mut self, additional: usize, bytes: usize) -> Result<()>
         // The items, the number of bytes and the logical type are as before.
@@ -262,8 +262,8 @@ impl<O: Offset> MutableBinaryArray<O> {
     ///
     /// # Errors
     ///
-    /// `Overflow` exactly where the last offset would pass `O::MAX`, or the length is `usize::MAX`; else `OutOfMemory`
-    /// alone. After either error, the array holds the items that it held.
+    /// `Overflow` exactly where the last offset would pass `O::MAX`, or the length is `usize::MAX`; else only
+    /// `OutOfMemory`. After either error, the array holds the items that it held.
     pub fn push(&mut self, item: Option<&[u8]>) -> Result<()>
         ensures { AppendsBinary O.MAX result self.old self.new (option_copied item.entry ∷ [])
             (option_map_or length (option_copied item.entry) 0) }
@@ -276,7 +276,7 @@ impl<O: Offset> MutableBinaryArray<O> {
     ///
     /// # Errors
     ///
-    /// `Overflow` exactly where the length is `usize::MAX`, else `OutOfMemory` alone. After either error, the array
+    /// `Overflow` exactly where the length is `usize::MAX`, else only `OutOfMemory`. After either error, the array
     /// holds the items that it held.
     pub fn push_null(&mut self) -> Result<()>
         ensures { AppendsBinary O.MAX result self.old self.new (None ∷ []) 0 }
@@ -292,7 +292,7 @@ impl<O: Offset> MutableBinaryArray<O> {
     /// # Errors
     ///
     /// `Overflow` exactly where the last offset would pass `O::MAX`, or the new length would pass `usize::MAX`; else
-    /// `OutOfMemory` alone. After either error, the array holds the items that it held.
+    /// only `OutOfMemory`. After either error, the array holds the items that it held.
     pub fn extend_from_slice(&mut self, values: &[&[u8]]) -> Result<()>
         ensures { AppendsBinary O.MAX result self.old self.new (map (λ value. Some value.now) values.now)
             (sum (map (λ value. length value.now) values.now)) }
@@ -307,7 +307,7 @@ impl<O: Offset> MutableBinaryArray<O> {
     /// # Errors
     ///
     /// `Overflow` exactly where the last offset would pass `O::MAX`, or the new length would pass `usize::MAX`; else
-    /// `OutOfMemory` alone. After either error, the array holds the items that it held.
+    /// only `OutOfMemory`. After either error, the array holds the items that it held.
     pub fn extend_from_options(&mut self, items: &[Option<&[u8]>]) -> Result<()>
         ensures { AppendsBinary O.MAX result self.old self.new (items_by_bytes items.now)
             (bytes_of_items (items_by_bytes items.now)) }
@@ -321,7 +321,7 @@ impl<O: Offset> MutableBinaryArray<O> {
     /// # Errors
     ///
     /// `Overflow` exactly where the last offset would pass `O::MAX`, or the new length would pass `usize::MAX`; else
-    /// `OutOfMemory` alone. After either error, the array holds the items that it held.
+    /// only `OutOfMemory`. After either error, the array holds the items that it held.
     pub fn extend_constant(&mut self, additional: usize, item: Option<&[u8]>) -> Result<()>
         ensures { AppendsBinary O.MAX result self.old self.new (replicate additional (option_copied item.entry))
             (additional * option_map_or length (option_copied item.entry) 0) }
@@ -338,7 +338,7 @@ impl<O: Offset> MutableBinaryArray<O> {
     /// # Errors
     ///
     /// `Overflow` exactly where the last offset would pass `O::MAX`, or the new length would pass `usize::MAX`; else
-    /// `OutOfMemory` alone. After either error, the array holds the items that it held.
+    /// only `OutOfMemory`. After either error, the array holds the items that it held.
     pub fn extend_from_array(
         &mut self,
         array: &BinaryArray<O>,
@@ -372,11 +372,14 @@ impl<O: Offset> MutableBinaryArray<O> {
         self.slots.shrink_to_fit()
     }
 
-    /// Returns the array of the items. The array has a validity bitmap exactly if an item is null.
+    /// Returns the array of the items. The array has a validity bitmap exactly if an item is null. It stores its slots
+    /// alone: its offsets go from 0 to the number of bytes. The bytes are moved and not copied, which no clause states.
+    ///
+    /// Stands for arrow2's `From<MutableBinaryArray>`.
     ///
     /// # Errors
     ///
-    /// `OutOfMemory` alone. The items are then dropped.
+    /// Only `OutOfMemory`. The items are then dropped.
     pub fn freeze(self) -> Result<BinaryArray<O>>
         ensures items { IfOk result (λ a. binary_items a ≡ self.items) }
         ensures data_type { IfOk result (λ a. a.data_type ≡ self.data_type) }

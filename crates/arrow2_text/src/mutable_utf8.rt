@@ -78,7 +78,7 @@ impl<O: Offset> MutableUtf8Array<O> {
     ///
     /// # Errors
     ///
-    /// `OutOfMemory` alone.
+    /// Only `OutOfMemory`.
     pub fn new(alloc: Global) -> Result<MutableUtf8Array<O>>
         ensures data_type { IfOk result (λ a. a.data_type ≡ default_text O.IS_LARGE) }
         ensures items { IfOk result (λ a. (a.items ≡ []) × (a.bytes ≡ 0)) }
@@ -93,7 +93,7 @@ impl<O: Offset> MutableUtf8Array<O> {
     /// # Errors
     ///
     /// `Overflow` exactly where `capacity` is `usize::MAX`, since there is one offset more than there are items; else
-    /// `OutOfMemory` alone.
+    /// only `OutOfMemory`.
     pub fn with_capacity_from(
         alloc: Global,
         data_type: Rc<DataType>,
@@ -120,7 +120,7 @@ impl<O: Offset> MutableUtf8Array<O> {
     /// # Errors
     ///
     /// `Overflow` exactly where `capacity` is `usize::MAX`, since there is one offset more than there are items; else
-    /// `OutOfMemory` alone.
+    /// only `OutOfMemory`.
     pub fn with_capacity(
         alloc: Global,
         capacity: usize,
@@ -144,7 +144,7 @@ impl<O: Offset> MutableUtf8Array<O> {
     ///
     /// # Errors
     ///
-    /// `OutOfMemory` alone. The array then holds the items that it held.
+    /// Only `OutOfMemory`. The array then holds the items that it held.
     pub fn pop(&mut self) -> Result<Option<Option<String>>>
         ensures { PopsBinary string_bytes result self.old self.new }
     {
@@ -254,7 +254,7 @@ impl<O: Offset> MutableUtf8Array<O> {
     ///
     /// # Errors
     ///
-    /// `Overflow` exactly where the sum of the length and `additional` passes `usize::MAX`, else `OutOfMemory` alone.
+    /// `Overflow` exactly where the sum of the length and `additional` passes `usize::MAX`, else only `OutOfMemory`.
     /// After either error, the array holds the items that it held.
     pub fn reserve(&mut self, additional: usize, bytes: usize) -> Result<()>
         // The items, the number of bytes and the logical type are as before.
@@ -281,8 +281,8 @@ impl<O: Offset> MutableUtf8Array<O> {
     ///
     /// # Errors
     ///
-    /// `Overflow` exactly where the last offset would pass `O::MAX`, or the length is `usize::MAX`; else `OutOfMemory`
-    /// alone. After either error, the array holds the items that it held.
+    /// `Overflow` exactly where the last offset would pass `O::MAX`, or the length is `usize::MAX`; else only
+    /// `OutOfMemory`. After either error, the array holds the items that it held.
     pub fn push(&mut self, item: Option<&str>) -> Result<()>
         ensures { AppendsBinary O.MAX result self.old self.new (option_copied item.entry ∷ [])
             (option_map_or length (option_copied item.entry) 0) }
@@ -295,7 +295,7 @@ impl<O: Offset> MutableUtf8Array<O> {
     ///
     /// # Errors
     ///
-    /// `Overflow` exactly where the length is `usize::MAX`, else `OutOfMemory` alone. After either error, the array
+    /// `Overflow` exactly where the length is `usize::MAX`, else only `OutOfMemory`. After either error, the array
     /// holds the items that it held.
     pub fn push_null(&mut self) -> Result<()>
         ensures { AppendsBinary O.MAX result self.old self.new (None ∷ []) 0 }
@@ -318,7 +318,7 @@ impl<O: Offset> MutableUtf8Array<O> {
     /// # Errors
     ///
     /// `Overflow` exactly where the last offset would pass `O::MAX`, or the new length would pass `usize::MAX`; else
-    /// `OutOfMemory` alone. After either error, the array holds the items that it held.
+    /// only `OutOfMemory`. After either error, the array holds the items that it held.
     pub fn extend_from_slice(&mut self, values: &[&str]) -> Result<()>
         ensures { AppendsBinary O.MAX result self.old self.new (map (λ value. Some value.now) values.now)
             (sum (map (λ value. length value.now) values.now)) }
@@ -333,7 +333,7 @@ impl<O: Offset> MutableUtf8Array<O> {
     /// # Errors
     ///
     /// `Overflow` exactly where the last offset would pass `O::MAX`, or the new length would pass `usize::MAX`; else
-    /// `OutOfMemory` alone. After either error, the array holds the items that it held.
+    /// only `OutOfMemory`. After either error, the array holds the items that it held.
     pub fn extend_from_options(&mut self, items: &[Option<&str>]) -> Result<()>
         ensures { AppendsBinary O.MAX result self.old self.new (items_by_bytes items.now)
             (bytes_of_items (items_by_bytes items.now)) }
@@ -347,7 +347,7 @@ impl<O: Offset> MutableUtf8Array<O> {
     /// # Errors
     ///
     /// `Overflow` exactly where the last offset would pass `O::MAX`, or the new length would pass `usize::MAX`; else
-    /// `OutOfMemory` alone. After either error, the array holds the items that it held.
+    /// only `OutOfMemory`. After either error, the array holds the items that it held.
     pub fn extend_constant(&mut self, additional: usize, item: Option<&str>) -> Result<()>
         ensures { AppendsBinary O.MAX result self.old self.new (replicate additional (option_copied item.entry))
             (additional * option_map_or length (option_copied item.entry) 0) }
@@ -364,7 +364,7 @@ impl<O: Offset> MutableUtf8Array<O> {
     /// # Errors
     ///
     /// `Overflow` exactly where the last offset would pass `O::MAX`, or the new length would pass `usize::MAX`; else
-    /// `OutOfMemory` alone. After either error, the array holds the items that it held.
+    /// only `OutOfMemory`. After either error, the array holds the items that it held.
     pub fn extend_from_array(
         &mut self,
         array: &Utf8Array<O>,
@@ -399,11 +399,14 @@ impl<O: Offset> MutableUtf8Array<O> {
     }
 
     /// Returns the array of the items, and does not test them for UTF-8 again. The array has a validity bitmap exactly
-    /// if an item is null.
+    /// if an item is null. It stores its slots alone: its offsets go from 0 to the number of bytes. The bytes are moved
+    /// and not copied, which no clause states.
+    ///
+    /// Stands for arrow2's `From<MutableUtf8Array>`.
     ///
     /// # Errors
     ///
-    /// `OutOfMemory` alone. The items are then dropped.
+    /// Only `OutOfMemory`. The items are then dropped.
     pub fn freeze(self) -> Result<Utf8Array<O>>
         ensures items { IfOk result (λ a. binary_items a ≡ self.items) }
         ensures data_type { IfOk result (λ a. a.data_type ≡ self.data_type) }

@@ -18,9 +18,7 @@ ghost use Rattle.arrow2_text.specs.Failures.{RejectsParts, not_utf8, other_text_
 
 use crate::binary::BinaryArray;
 use crate::checks::{binary_type, check_utf8, text_type};
-use crate::iterator::{
-    ArrayIter, ArrayNonNullValuesIter, ArrayValuesIter, Utf8Iter, Utf8ValuesIter,
-};
+use crate::iterator::{Utf8Iter, Utf8ValuesIter};
 use crate::mutable_utf8::MutableUtf8Array;
 use crate::slots::Slots;
 use arrow2_bitmap::Bitmap;
@@ -30,6 +28,7 @@ use arrow2_index::Offset;
 use arrow2_offset::OffsetsBuffer;
 use arrow2_types::{Error, Result};
 use arrow2_validity::Validity;
+use arrow2_walks::{ArrayIter, ArrayValuesIter, NonNullValuesIter};
 use either::Either;
 use std::alloc::{AllocError, Global};
 use std::marker::Model;
@@ -83,8 +82,8 @@ impl<O: Offset> Model for Utf8Array<O> {
 }
 
 impl<O: Offset> Utf8Array<O> {
-    /// Returns the array of these parts: slot i is the text from offset i to offset i + 1, and is null where bit i of
-    /// the validity is unset. Without a validity no slot is null.
+    /// Returns the array of these parts: slot i is the text from byte `offsets[i]` up to, and without, byte
+    /// `offsets[i + 1]`, and is null where bit i of the validity is unset. Without a validity no slot is null.
     ///
     /// # Errors
     ///
@@ -97,6 +96,8 @@ impl<O: Offset> Utf8Array<O> {
     /// - the physical type of `data_type` is not that of texts: `Utf8`, or `LargeUtf8` where `O` has 64 bits.
     ///
     /// If none holds, the only error is `OutOfMemory`. After an error the parts are dropped.
+    ///
+    /// Differs from arrow2, which returns `OutOfSpec` in place of `InvalidArgumentError`.
     pub fn try_new(
         data_type: DataType,
         offsets: OffsetsBuffer<O>,
@@ -120,10 +121,12 @@ impl<O: Offset> Utf8Array<O> {
         })
     }
 
-    /// Returns the array of these parts: slot i is the text from offset i to offset i + 1, and is null where bit i of
-    /// the validity is unset. Without a validity no slot is null. Requires that the physical type of `data_type` is
-    /// `Utf8`, or `LargeUtf8` where `O` has 64 bits, that each slot is within the values and UTF-8, and that the
-    /// validity, if there is one, has a bit for each slot. Does not allocate.
+    /// Returns the array of these parts: slot i is the text from byte `offsets[i]` up to, and without, byte
+    /// `offsets[i + 1]`, and is null where bit i of the validity is unset. Without a validity no slot is null. Requires
+    /// that the physical type of `data_type` is `Utf8`, or `LargeUtf8` where `O` has 64 bits, that each slot is within
+    /// the values and UTF-8, and that the validity, if there is one, has a bit for each slot. Does not allocate.
+    ///
+    /// Differs from arrow2, which takes a `DataType`, and panics where `try_new` fails.
     pub fn new(
         data_type: Rc<DataType>,
         offsets: OffsetsBuffer<O>,
@@ -167,7 +170,8 @@ impl<O: Offset> Utf8Array<O> {
         text_type::<O>()
     }
 
-    /// Returns an array of a copy of these texts. No item is null.
+    /// Returns an array of a copy of these texts. No item is null, and there is no validity bitmap. The logical type is
+    /// `Utf8`, or `LargeUtf8` where `O` has 64 bits.
     ///
     /// # Errors
     ///
@@ -189,9 +193,10 @@ impl<O: Offset> Utf8Array<O> {
         array.freeze()
     }
 
-    /// Returns an array of a copy of these items. The array has a validity bitmap exactly if an item is null.
+    /// Returns an array of a copy of these items. The array has a validity bitmap exactly if an item is null. The
+    /// logical type is `Utf8`, or `LargeUtf8` where `O` has 64 bits.
     ///
-    /// Replaces arrow2's `from`, which takes a slice.
+    /// Stands for arrow2's `from`, which takes a slice.
     ///
     /// # Errors
     ///
@@ -312,7 +317,7 @@ impl<O: Offset> Utf8Array<O> {
     }
 
     /// Returns the [`Validity`]: the array's length and an optional bitmap. Its methods work with and without a bitmap,
-    /// so that a caller needs no branch.
+    /// so that a caller needs no branch. arrow2 has no such call.
     pub fn optional_validity(&self) -> &Validity
         ensures value { result.now ≡ self.now.validity }
         ensures len { length (valid_items result.now) ≡ length (binary_items self.now) }
@@ -322,7 +327,7 @@ impl<O: Offset> Utf8Array<O> {
         self.slots.validity()
     }
 
-    /// Returns an iterator over the items, from both ends.
+    /// Returns a double-ended iterator over the items.
     pub fn iter(&self) -> Utf8Iter<'_, O>
         ensures { result ≡ binary_items self.now }
     {
@@ -330,13 +335,13 @@ impl<O: Offset> Utf8Array<O> {
     }
 
     /// Returns an iterator over the texts that are not null, in their order.
-    pub fn non_null_values_iter(&self) -> ArrayNonNullValuesIter<&Utf8Array<O>>
+    pub fn non_null_values_iter(&self) -> NonNullValuesIter<&Utf8Array<O>>
         ensures { result ≡ non_null_values (binary_items self.now) }
     {
-        ArrayNonNullValuesIter::new(self)
+        NonNullValuesIter::new(self)
     }
 
-    /// Returns an iterator over the texts, those under nulls too, from both ends.
+    /// Returns a double-ended iterator over the texts, those under nulls too.
     pub fn values_iter(&self) -> Utf8ValuesIter<'_, O>
         ensures { result ≡ binary_values self.now }
     {
@@ -383,7 +388,7 @@ impl<O: Offset> Utf8Array<O> {
     ///
     /// # Errors
     ///
-    /// `OutOfMemory` alone.
+    /// Only `OutOfMemory`.
     pub fn to_binary(&self) -> Result<BinaryArray<O>>
         ensures ok { IfOk result (λ a.
             a ≡ record self.now { data_type = default_binary O.IS_LARGE }) }
@@ -397,7 +402,7 @@ impl<O: Offset> Utf8Array<O> {
     ///
     /// # Errors
     ///
-    /// `OutOfMemory` alone. The array is then dropped.
+    /// Only `OutOfMemory`. The array is then dropped.
     pub fn into_binary(self) -> Result<BinaryArray<O>>
         ensures ok { IfOk result (λ a. a ≡ record self { data_type = default_binary O.IS_LARGE }) }
         ensures only { IfErr result (λ e. e ≡ Error.OutOfMemory) }
@@ -424,7 +429,7 @@ impl<O: Offset> Utf8Array<O> {
     ///
     /// # Errors
     ///
-    /// `OutOfMemory` alone, and only where the offsets are not sliced, begin at 0 and end after the last byte. The
+    /// Only `OutOfMemory`, and only where the offsets are not sliced, begin at 0 and end after the last byte. The
     /// array is then dropped. In the code it comes only if the offsets also have no other owner, and one of these
     /// holds:
     ///
@@ -448,7 +453,9 @@ impl<O: Offset> Utf8Array<O> {
         }
     }
 
-    /// Returns the logical type, the offsets, the bytes and the validity bitmap.
+    /// Returns the logical type, the offsets, the bytes and the validity bitmap. Does not allocate.
+    ///
+    /// Differs from arrow2, which returns the `DataType` itself.
     pub fn into_inner(self) -> (Rc<DataType>, OffsetsBuffer<O>, Buffer<u8>, Option<Bitmap>)
         ensures data_type { result.0.value ≡ self.data_type }
         ensures offsets { result.1 ≡ self.offsets }

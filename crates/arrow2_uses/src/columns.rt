@@ -59,7 +59,7 @@ pub fn fill_null<T: NativeType>(column: &PrimitiveArray<T>, value: T) -> Result<
 ///
 /// # Errors
 ///
-/// `OutOfMemory` alone.
+/// Only `OutOfMemory`.
 pub fn selected_sum(column: &PrimitiveArray<i64>, mask: &Bitmap) -> Result<i128>
     requires same_length { length (items_of mask.now) ≡ length (primitive_items column.now) }
     ensures ok { IfOk result (λ total.
@@ -74,7 +74,7 @@ pub fn selected_sum(column: &PrimitiveArray<i64>, mask: &Bitmap) -> Result<i128>
 ///
 /// # Errors
 ///
-/// `OutOfMemory` alone.
+/// Only `OutOfMemory`.
 pub fn above<T: NativeType + PartialOrd>(
     column: &PrimitiveArray<T>,
     bound: T,
@@ -92,7 +92,7 @@ pub fn above<T: NativeType + PartialOrd>(
 ///
 /// # Errors
 ///
-/// `OutOfMemory` alone.
+/// Only `OutOfMemory`.
 pub fn sum_at(column: &PrimitiveArray<i64>, indices: &[usize]) -> Result<i128>
     requires inside { All (λ index. index < length (primitive_items column.now)) indices.now }
     ensures ok { IfOk result (λ total. total ≡ sum_of_non_null (λ x. x)

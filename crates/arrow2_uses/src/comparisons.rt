@@ -12,7 +12,7 @@ use arrow2::error::{Error, Result};
 ///
 /// # Errors
 ///
-/// `OutOfMemory` alone.
+/// Only `OutOfMemory`.
 pub fn below(values: &Buffer<i64>, bound: i64) -> Result<Bitmap>
     ensures items { IfOk result (λ b. items_of b
         ≡ map (λ value. int_lt value bound) (buffer_items values.now)) }
@@ -29,7 +29,7 @@ pub fn below(values: &Buffer<i64>, bound: i64) -> Result<Bitmap>
 ///
 /// # Errors
 ///
-/// `OutOfMemory` alone.
+/// Only `OutOfMemory`.
 pub fn below_each(values: &Buffer<i64>, bounds: &Buffer<i64>) -> Result<Bitmap>
     requires same_length { length (buffer_items values.now) ≡ length (buffer_items bounds.now) }
     ensures items { IfOk result (λ b. items_of b

@@ -1,5 +1,5 @@
 //! A column type of a caller's own, made of two of arrow2's arrays: texts that repeat, each stored once.
-ghost use Rattle.std.specs.Prelude.{◌≡◌, ◌↔◌, ◌+◌, ◌<◌, ◌≤◌, ◌⊎◌, All, None, codes, pos, length, map, slice_index_or, IfOk, IfErr, IsOk, IsTrue};
+ghost use Rattle.std.specs.Prelude.{◌≡◌, ◌↔◌, ◌+◌, ◌<◌, ◌≤◌, ◌⊎◌, [], All, None, codes, pos, length, map, option_map, refl, slice_index_or, unwrap_or, IfOk, IfErr, IsOk, IsTrue};
 ghost use Rattle.std.specs.Option.{option_copied};
 ghost use Rattle.arrow2.specs.Binary.{binary_items};
 ghost use Rattle.arrow2.specs.Parts.{part};
@@ -9,7 +9,9 @@ ghost use Rattle.arrow2.specs.Selections.{selection};
 ghost use Rattle.arrow2.specs.Storage.{items_of};
 ghost use Rattle.arrow2.specs.Take.{IsInBoundsOrNull, item_at};
 
-use arrow2::array::{MutableUtf8Array, PrimitiveArray, Utf8Array};
+use arrow2::array::{
+    ArrayAccessor, ArrayIter, MutableUtf8Array, PrimitiveArray, SeenBytes, Utf8Array,
+};
 use arrow2::bitmap::Bitmap;
 use arrow2::compute::filter::filter;
 use arrow2::error::{Error, Result};
@@ -85,6 +87,13 @@ impl Dictionary {
         text_at(&self.texts, self.keys.get(index))
     }
 
+    /// Returns a double-ended iterator over the items.
+    pub fn iter(&self) -> ArrayIter<&Dictionary>
+        ensures { result ≡ self.now }
+    {
+        ArrayIter::new(self)
+    }
+
     /// Keeps `len` items from item `offset` on. Requires that `offset + len` is at most the length.
     pub fn slice(&mut self, offset: usize, len: usize)
         requires inside { offset + len ≤ length self.old }
@@ -97,7 +106,7 @@ impl Dictionary {
     ///
     /// # Errors
     ///
-    /// `OutOfMemory` alone.
+    /// Only `OutOfMemory`.
     pub fn filter(&self, mask: &Bitmap) -> Result<Dictionary>
         requires same_length { length (items_of mask.now) ≡ length self.now }
         ensures ok { IfOk result (λ d. d ≡ selection self.now (items_of mask.now)) }
@@ -123,6 +132,35 @@ impl Dictionary {
         }
         Ok(decoded.freeze()?)
     }
+}
+
+/// A null has no text of its own: its value is empty.
+impl<'a> ArrayAccessor for &'a Dictionary {
+    type Value = &'a str;
+
+    type Seen = SeenBytes;
+
+    ghost value = { λ text. text.now };
+
+    ghost item = { option_map (λ text. text.now) };
+
+    ghost items = { λ d. d.now };
+
+    ghost values = { λ d. map (λ item. unwrap_or item []) d.now };
+
+    fn count(self) -> usize {
+        self.len()
+    }
+
+    fn value_at(self, index: usize) -> &'a str {
+        self.get(index).unwrap_or("")
+    }
+
+    fn item_at(self, index: usize) -> Option<&'a str> {
+        self.get(index)
+    }
+
+    ghost item_of_value = { λ item. refl };
 }
 
 /// Returns whether each key is null or below `len`.

@@ -11,7 +11,7 @@ use std::convert::AsSlice;
 ///
 /// # Errors
 ///
-/// `OutOfMemory` alone.
+/// Only `OutOfMemory`.
 pub fn low_first<T: NativeType>(alloc: Global, values: &[T]) -> Result<Vec<u8>>
     ensures bytes { IfOk result (λ v. v.items ≡ flat_map T.le_digits values.now) }
     ensures only { IfErr result (λ e. e ≡ Error.OutOfMemory) }

@@ -12,7 +12,7 @@ use arrow2::error::{Error, Result};
 ///
 /// # Errors
 ///
-/// `OutOfMemory` alone.
+/// Only `OutOfMemory`.
 pub fn without(bitmap: &Bitmap, other: &Bitmap) -> Result<Bitmap>
     requires same_length { length (items_of bitmap.now) ≡ length (items_of other.now) }
     ensures items { IfOk result (λ b. items_of b
@@ -36,7 +36,7 @@ pub fn remove(bitmap: &mut MutableBitmap, other: &Bitmap)
 ///
 /// # Errors
 ///
-/// `OutOfMemory` alone.
+/// Only `OutOfMemory`.
 pub fn next_words(bitmap: &Bitmap) -> Result<Bitmap>
     ensures items { IfOk result (λ b. items_of b
         ≡ unary_kernel 64 (λ x. (x + 1) % 2 ^ 64) (items_of bitmap.now)) }

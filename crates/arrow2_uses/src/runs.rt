@@ -15,7 +15,7 @@ use std::alloc::Global;
 ///
 /// # Errors
 ///
-/// `OutOfMemory` alone.
+/// Only `OutOfMemory`.
 pub fn valid_values(alloc: Global, values: &[i64], validity: &Bitmap) -> Result<Vec<i64>>
     requires same_length { length (items_of validity.now) ≡ length values.now }
     ensures ok { IfOk result (λ valid. valid.items

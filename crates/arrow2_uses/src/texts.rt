@@ -64,7 +64,7 @@ fn length_of(text: Option<&str>) -> Option<u64>
 ///
 /// # Errors
 ///
-/// `OutOfMemory` alone.
+/// Only `OutOfMemory`.
 #[tactic(auto, using(arrow2::proofs::NestedLists::nested))]
 pub fn list_at(
     offsets: &OffsetsBuffer<i32>,
@@ -87,7 +87,7 @@ pub fn list_at(
 ///
 /// # Errors
 ///
-/// `OutOfMemory` alone.
+/// Only `OutOfMemory`.
 pub fn valid_lengths(
     alloc: Global,
     offsets: &OffsetsBuffer<i32>,

@@ -11,7 +11,7 @@ use std::alloc::Global;
 ///
 /// # Errors
 ///
-/// `OutOfMemory` alone.
+/// Only `OutOfMemory`.
 pub fn validity_of(alloc: Global, values: &[Option<i64>]) -> Result<Bitmap>
     ensures items { IfOk result (λ b. items_of b ≡ map is_some values.now) }
     ensures only { IfErr result (λ e. e ≡ Error.OutOfMemory) }
@@ -45,7 +45,7 @@ pub fn nulls_by_halves(validity: &Bitmap) -> usize
 ///
 /// # Errors
 ///
-/// `OutOfMemory` alone.
+/// Only `OutOfMemory`.
 #[tactic(auto, unfolding(arrow2::specs::Bits::bits, arrow2::specs::Bits::unnum))]
 pub fn one_null_of_three(alloc: Global) -> Result<Bitmap>
     ensures items { IfOk result (λ b. items_of b ≡ true ∷ false ∷ true ∷ []) }

@@ -166,7 +166,7 @@ impl Validity {
     ///
     /// # Errors
     ///
-    /// `OutOfMemory` alone, and only where there is no bitmap.
+    /// Only `OutOfMemory`, and only where there is no bitmap.
     pub fn into_mut(self, alloc: Global) -> Result<Either<Validity, MutableBitmap>>
         ensures ok { IfOk result (λ r. MatchEither r (λ v. v ≡ self) (λ m. m.items ≡ valid_items self)) }
         ensures made { IsNone self.bitmap → IfOk result (λ r. MatchEither r (λ _. ⊥) (λ _. ⊤)) }
@@ -190,7 +190,7 @@ impl Validity {
     ///
     /// # Errors
     ///
-    /// `Overflow` exactly where the new length would pass `usize::MAX`, else `OutOfMemory` alone. After either error,
+    /// `Overflow` exactly where the new length would pass `usize::MAX`, else only `OutOfMemory`. After either error,
     /// `grown` holds the items that it held.
     pub fn append_to(&self, start: usize, len: usize, grown: &mut MutableBitmap) -> Result<()>
         requires inside { start + len ≤ length (valid_items self.now) }
@@ -207,7 +207,7 @@ impl Validity {
     ///
     /// # Errors
     ///
-    /// `OutOfMemory` alone. Where neither has a bitmap it never fails. The code returns `OutOfMemory` only where both
+    /// Only `OutOfMemory`. Where neither has a bitmap it never fails. The code returns `OutOfMemory` only where both
     /// have a bitmap, or where a reference count would overflow; no clause states that.
     pub fn both(&self, other: &Validity) -> Result<Validity>
         requires same_length { length (valid_items self.now) ≡ length (valid_items other.now) }

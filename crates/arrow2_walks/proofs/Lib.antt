@@ -1,5 +1,6 @@
 pub mod Cuts
 pub mod InnerRuns
+pub mod ItemParts
 pub mod RemainingItems
 pub mod MaximalRuns
 pub mod RunLaws

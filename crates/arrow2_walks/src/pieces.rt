@@ -42,7 +42,7 @@ impl Pieces {
     ///
     /// # Errors
     ///
-    /// `OutOfMemory` alone. The bitmap is then dropped.
+    /// Only `OutOfMemory`. The bitmap is then dropped.
     pub fn new(alloc: Global, bitmap: Bitmap) -> Result<Pieces>
         ensures ok { IfOk result (λ p. p ≡ record { pieces = piece_of bitmap ∷ []; reads = 0 }) }
         ensures only { IfErr result (λ e. e ≡ Error.OutOfMemory) }
@@ -90,7 +90,7 @@ impl Pieces {
     ///
     /// # Errors
     ///
-    /// `OutOfMemory` alone. After it, the pieces and the number of counted bytes are as they were.
+    /// Only `OutOfMemory`. After it, the pieces and the number of counted bytes are as they were.
     pub fn cut(&mut self, p: usize, i: usize) -> Result<()>
         requires below { p < length self.old.pieces }
         requires inside { i ≤ length (piece_at self.old.pieces p).items }

@@ -11,7 +11,7 @@ ghost use Rattle.arrow2_walks.specs.Zips.{values_of, validity_of, either_values,
 use arrow2_bitmap::Bitmap;
 use arrow2_bits::BitmapIter;
 
-/// An iterator over values and their validity, from both ends: an item is `Some` of the value where the value is valid,
+/// A double-ended iterator over values and their validity: an item is `Some` of the value where the value is valid,
 /// and `None` where it is null.
 ///
 /// Differs from arrow2: `nth` is the standard library's default, which calls `next`. There is no type parameter for a
@@ -95,7 +95,7 @@ where
     }
 }
 
-/// An iterator over values, with or without their validity, from both ends. Without validity each item is `Some` of a
+/// A double-ended iterator over values, with or without their validity. Without validity each item is `Some` of a
 /// value. A caller may match on the variants, to run a separate loop where no value is null.
 #[derive(Debug, Clone, Drop)]
 pub enum ZipValidity<I, V> {

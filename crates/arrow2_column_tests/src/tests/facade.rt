@@ -2,8 +2,9 @@
 //! of byte strings and of texts, and `compute`.
 use super::checks::{assert_text, assert_that};
 pub use arrow2::array::{
-    ArrayAccessor, ArrayIter, ArrayNonNullValuesIter, ArrayValuesIter, BinaryIter, BinaryValueIter,
-    BooleanArray, BooleanIter, MutableBooleanArray, Utf8Iter, Utf8ValuesIter,
+    ArrayAccessor, ArrayIter, ArrayValuesIter, BinaryIter, BinaryValueIter, BooleanArray,
+    BooleanIter, MutableBooleanArray, NonNullValuesIter, PrimitiveIter, SeenBytes, Utf8Iter,
+    Utf8ValuesIter,
 };
 pub use arrow2::bitmap::utils::{
     BitChunkIterExact, BitChunks, BitChunksExact, BitChunksExactMut, BitmapIter, Reads,

@@ -1,13 +1,14 @@
 //! What arrays of texts, of byte strings and of booleans give of their items: their values, with and without those under
-//! nulls, and the least and the greatest item; of booleans at each length up to 300 and on a million items, compared with
-//! plain code over lists. The arrays of texts and of byte strings are made of all items at once.
+//! nulls, and the least and the greatest item, at each length up to 300 and on a million items, compared with plain code
+//! over lists. The arrays of texts and of byte strings are made of all items at once.
 use super::checks::{assert_list, assert_that, ok};
-use super::kernels::{booleans, booleans_below};
+use super::kernels::{booleans, booleans_below, texts_below};
 use arrow2::array::{BinaryArray, MutableBinaryArray, MutableUtf8Array, Utf8Array};
 use arrow2::compute::aggregate::{max_binary, max_boolean, min_binary, min_boolean};
 use arrow2::datatypes;
 use arrow2::types::Offset;
 use std::alloc::Global;
+use std::cmp::Ordering;
 use std::process::Abort;
 
 /// Returns the items that are not null.
@@ -111,6 +112,81 @@ fn extremes_of_booleans_agree_with_lists(rt: HostRuntime) {
         extremes_agree(&rt, alloc, len, 3);
     }
     extremes_agree(&rt, alloc, 1_000_000, 3);
+}
+
+/// Returns the item that compares so with the other, or the one that is not null.
+fn extreme_of_two<T: Copy + Ord>(item: Option<T>, other: Option<T>, wanted: Ordering) -> Option<T> {
+    match (item, other) {
+        (Some(value), Some(next)) => Some(if next.cmp(&value) == wanted {
+            next
+        } else {
+            value
+        }),
+        (None, _) => other,
+        (_, None) => item,
+    }
+}
+
+/// Returns the item that compares so with each other item: with `Less` the least one, with `Greater` the greatest.
+fn extreme<T: Copy + Ord>(items: &[Option<T>], wanted: Ordering) -> Option<T> {
+    let mut found: Option<T> = None;
+    for item in items {
+        found = extreme_of_two(found, *item, wanted);
+    }
+    found
+}
+
+/// Checks the items that an iterator over texts gives, and the values that are not null.
+fn texts_come_in_order<O: Offset>(rt: &impl Abort, array: &Utf8Array<O>, items: &[Option<&str>]) {
+    let (mut iter, mut values) = (array.iter(), array.non_null_values_iter());
+    assert_that(rt, iter.len() == items.len());
+    for item in items {
+        assert_that(rt, iter.next() == Some(*item));
+        assert_that(rt, item.is_none() || values.next() == *item);
+    }
+    assert_that(rt, iter.next().is_none());
+    assert_that(rt, values.next().is_none());
+}
+
+/// Checks the items that an iterator over texts gives from the last one on.
+fn texts_come_from_the_back<O: Offset>(
+    rt: &impl Abort,
+    array: &Utf8Array<O>,
+    items: &[Option<&str>],
+) {
+    let mut iter = array.iter();
+    for item in items.iter().rev() {
+        assert_that(rt, iter.next_back() == Some(*item));
+    }
+}
+
+/// Checks texts of a length: their iterators, and the least and the greatest one.
+fn texts_agree<O: Offset>(rt: &impl Abort, alloc: Global, len: usize, nulls: usize) {
+    let items = texts_below(rt, alloc, len, 1, nulls);
+    let items = items.as_slice();
+    let array = texts_together::<O>(rt, alloc, items);
+    texts_come_in_order(rt, &array, items);
+    texts_come_from_the_back(rt, &array, items);
+    let least = extreme(items, Ordering::Less);
+    assert_that(rt, min_binary(&array) == least.map(|text| text.as_bytes()));
+    let greatest = extreme(items, Ordering::Greater);
+    assert_that(
+        rt,
+        max_binary(&array) == greatest.map(|text| text.as_bytes()),
+    );
+}
+
+#[test]
+fn items_of_texts_agree_with_lists(rt: HostRuntime) {
+    let alloc = rt.alloc();
+    for len in 0..=300 {
+        for nulls in [0, 1, 3] {
+            texts_agree::<i32>(&rt, alloc, len, nulls);
+            texts_agree::<i64>(&rt, alloc, len, nulls);
+        }
+    }
+    texts_agree::<i32>(&rt, alloc, 1_000_000, 3);
+    texts_agree::<i64>(&rt, alloc, 1_000_000, 0);
 }
 
 /// Checks the least and the greatest of texts.

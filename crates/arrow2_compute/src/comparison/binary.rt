@@ -1,4 +1,5 @@
-//! Comparisons of byte strings and of texts, by the order of their bytes. An item of the result is null where an input
+//! Comparisons of byte strings and of texts, by the order of their bytes: the first bytes that differ decide. If none
+//! differ, the shorter one is below. An item of the result is null where an input
 //! item is null. The result has a validity bitmap exactly where an input has one.
 //!
 //! Differs from arrow2: texts are compared here too, where arrow2 has `comparison::utf8`, and the scalar for texts is a
@@ -25,7 +26,7 @@ use arrow2_types::{Error, Result};
 ///
 /// # Errors
 ///
-/// `OutOfMemory` alone.
+/// Only `OutOfMemory`.
 pub fn compare_each<A: Binary, F: Fn(&[u8]) -> bool>(array: &A, test: F) -> Result<BooleanArray>
     requires callable { IsCallableWithEach (binary_values (A.parts array.now)) (F.pre test) }
     ensures items { (outcome : List ℕ → Bool) →
@@ -55,7 +56,7 @@ pub fn compare_each<A: Binary, F: Fn(&[u8]) -> bool>(array: &A, test: F) -> Resu
 ///
 /// # Errors
 ///
-/// `OutOfMemory` alone.
+/// Only `OutOfMemory`.
 pub fn eq_scalar<A: Binary>(array: &A, scalar: &[u8]) -> Result<BooleanArray>
     ensures items { IfOk result (λ a. boolean_items a
         ≡ map (option_map (λ value. bytes_eq value scalar.now)) (binary_items (A.parts array.now))) }
@@ -69,7 +70,7 @@ pub fn eq_scalar<A: Binary>(array: &A, scalar: &[u8]) -> Result<BooleanArray>
 ///
 /// # Errors
 ///
-/// `OutOfMemory` alone.
+/// Only `OutOfMemory`.
 pub fn neq_scalar<A: Binary>(array: &A, scalar: &[u8]) -> Result<BooleanArray>
     ensures items { IfOk result (λ a. boolean_items a
         ≡ map (option_map (λ value. not (bytes_eq value scalar.now))) (binary_items (A.parts array.now))) }
@@ -83,7 +84,7 @@ pub fn neq_scalar<A: Binary>(array: &A, scalar: &[u8]) -> Result<BooleanArray>
 ///
 /// # Errors
 ///
-/// `OutOfMemory` alone.
+/// Only `OutOfMemory`.
 pub fn lt_scalar<A: Binary>(array: &A, scalar: &[u8]) -> Result<BooleanArray>
     ensures items { IfOk result (λ a. boolean_items a
         ≡ map (option_map (λ value. partial_lt bytes_cmp value scalar.now)) (binary_items (A.parts array.now))) }
@@ -97,7 +98,7 @@ pub fn lt_scalar<A: Binary>(array: &A, scalar: &[u8]) -> Result<BooleanArray>
 ///
 /// # Errors
 ///
-/// `OutOfMemory` alone.
+/// Only `OutOfMemory`.
 pub fn lt_eq_scalar<A: Binary>(array: &A, scalar: &[u8]) -> Result<BooleanArray>
     ensures items { IfOk result (λ a. boolean_items a
         ≡ map (option_map (λ value. partial_le bytes_cmp value scalar.now)) (binary_items (A.parts array.now))) }
@@ -111,7 +112,7 @@ pub fn lt_eq_scalar<A: Binary>(array: &A, scalar: &[u8]) -> Result<BooleanArray>
 ///
 /// # Errors
 ///
-/// `OutOfMemory` alone.
+/// Only `OutOfMemory`.
 pub fn gt_scalar<A: Binary>(array: &A, scalar: &[u8]) -> Result<BooleanArray>
     ensures items { IfOk result (λ a. boolean_items a
         ≡ map (option_map (λ value. partial_gt bytes_cmp value scalar.now)) (binary_items (A.parts array.now))) }
@@ -125,7 +126,7 @@ pub fn gt_scalar<A: Binary>(array: &A, scalar: &[u8]) -> Result<BooleanArray>
 ///
 /// # Errors
 ///
-/// `OutOfMemory` alone.
+/// Only `OutOfMemory`.
 pub fn gt_eq_scalar<A: Binary>(array: &A, scalar: &[u8]) -> Result<BooleanArray>
     ensures items { IfOk result (λ a. boolean_items a
         ≡ map (option_map (λ value. partial_ge bytes_cmp value scalar.now)) (binary_items (A.parts array.now))) }
@@ -141,7 +142,7 @@ pub fn gt_eq_scalar<A: Binary>(array: &A, scalar: &[u8]) -> Result<BooleanArray>
 ///
 /// # Errors
 ///
-/// `OutOfMemory` alone.
+/// Only `OutOfMemory`.
 fn compare_pairs<A: Binary, F: Fn(&[u8], &[u8]) -> bool>(
     lhs: &A,
     rhs: &A,
@@ -182,7 +183,7 @@ fn compare_pairs<A: Binary, F: Fn(&[u8], &[u8]) -> bool>(
 ///
 /// # Errors
 ///
-/// `OutOfMemory` alone.
+/// Only `OutOfMemory`.
 pub fn eq<A: Binary>(lhs: &A, rhs: &A) -> Result<BooleanArray>
     requires same_length { length (binary_items (A.parts lhs.now)) ≡ length (binary_items (A.parts rhs.now)) }
     ensures items { IfOk result (λ a. boolean_items a
@@ -199,7 +200,7 @@ pub fn eq<A: Binary>(lhs: &A, rhs: &A) -> Result<BooleanArray>
 ///
 /// # Errors
 ///
-/// `OutOfMemory` alone.
+/// Only `OutOfMemory`.
 pub fn neq<A: Binary>(lhs: &A, rhs: &A) -> Result<BooleanArray>
     requires same_length { length (binary_items (A.parts lhs.now)) ≡ length (binary_items (A.parts rhs.now)) }
     ensures items { IfOk result (λ a. boolean_items a
@@ -216,7 +217,7 @@ pub fn neq<A: Binary>(lhs: &A, rhs: &A) -> Result<BooleanArray>
 ///
 /// # Errors
 ///
-/// `OutOfMemory` alone.
+/// Only `OutOfMemory`.
 pub fn lt<A: Binary>(lhs: &A, rhs: &A) -> Result<BooleanArray>
     requires same_length { length (binary_items (A.parts lhs.now)) ≡ length (binary_items (A.parts rhs.now)) }
     ensures items { IfOk result (λ a. boolean_items a
@@ -233,7 +234,7 @@ pub fn lt<A: Binary>(lhs: &A, rhs: &A) -> Result<BooleanArray>
 ///
 /// # Errors
 ///
-/// `OutOfMemory` alone.
+/// Only `OutOfMemory`.
 pub fn lt_eq<A: Binary>(lhs: &A, rhs: &A) -> Result<BooleanArray>
     requires same_length { length (binary_items (A.parts lhs.now)) ≡ length (binary_items (A.parts rhs.now)) }
     ensures items { IfOk result (λ a. boolean_items a
@@ -250,7 +251,7 @@ pub fn lt_eq<A: Binary>(lhs: &A, rhs: &A) -> Result<BooleanArray>
 ///
 /// # Errors
 ///
-/// `OutOfMemory` alone.
+/// Only `OutOfMemory`.
 pub fn gt<A: Binary>(lhs: &A, rhs: &A) -> Result<BooleanArray>
     requires same_length { length (binary_items (A.parts lhs.now)) ≡ length (binary_items (A.parts rhs.now)) }
     ensures items { IfOk result (λ a. boolean_items a
@@ -267,7 +268,7 @@ pub fn gt<A: Binary>(lhs: &A, rhs: &A) -> Result<BooleanArray>
 ///
 /// # Errors
 ///
-/// `OutOfMemory` alone.
+/// Only `OutOfMemory`.
 pub fn gt_eq<A: Binary>(lhs: &A, rhs: &A) -> Result<BooleanArray>
     requires same_length { length (binary_items (A.parts lhs.now)) ≡ length (binary_items (A.parts rhs.now)) }
     ensures items { IfOk result (λ a. boolean_items a

@@ -47,7 +47,7 @@ fn outputs_beside(scalar: bool, table: u8) -> u8
 ///
 /// # Errors
 ///
-/// `OutOfMemory` alone.
+/// Only `OutOfMemory`.
 pub fn eq_scalar(array: &BooleanArray, scalar: bool) -> Result<BooleanArray>
     ensures items { IfOk result (λ a. boolean_items a
         ≡ map (option_map (λ value. bool_eq value scalar)) (boolean_items array.now)) }
@@ -61,7 +61,7 @@ pub fn eq_scalar(array: &BooleanArray, scalar: bool) -> Result<BooleanArray>
 ///
 /// # Errors
 ///
-/// `OutOfMemory` alone.
+/// Only `OutOfMemory`.
 pub fn neq_scalar(array: &BooleanArray, scalar: bool) -> Result<BooleanArray>
     ensures items { IfOk result (λ a. boolean_items a
         ≡ map (option_map (λ value. not (bool_eq value scalar))) (boolean_items array.now)) }
@@ -75,7 +75,7 @@ pub fn neq_scalar(array: &BooleanArray, scalar: bool) -> Result<BooleanArray>
 ///
 /// # Errors
 ///
-/// `OutOfMemory` alone.
+/// Only `OutOfMemory`.
 pub fn lt_scalar(array: &BooleanArray, scalar: bool) -> Result<BooleanArray>
     ensures items { IfOk result (λ a. boolean_items a
         ≡ map (option_map (λ value. bool_lt value scalar)) (boolean_items array.now)) }
@@ -89,7 +89,7 @@ pub fn lt_scalar(array: &BooleanArray, scalar: bool) -> Result<BooleanArray>
 ///
 /// # Errors
 ///
-/// `OutOfMemory` alone.
+/// Only `OutOfMemory`.
 pub fn lt_eq_scalar(array: &BooleanArray, scalar: bool) -> Result<BooleanArray>
     ensures items { IfOk result (λ a. boolean_items a
         ≡ map (option_map (λ value. bool_le value scalar)) (boolean_items array.now)) }
@@ -103,7 +103,7 @@ pub fn lt_eq_scalar(array: &BooleanArray, scalar: bool) -> Result<BooleanArray>
 ///
 /// # Errors
 ///
-/// `OutOfMemory` alone.
+/// Only `OutOfMemory`.
 pub fn gt_scalar(array: &BooleanArray, scalar: bool) -> Result<BooleanArray>
     ensures items { IfOk result (λ a. boolean_items a
         ≡ map (option_map (λ value. bool_lt scalar value)) (boolean_items array.now)) }
@@ -117,7 +117,7 @@ pub fn gt_scalar(array: &BooleanArray, scalar: bool) -> Result<BooleanArray>
 ///
 /// # Errors
 ///
-/// `OutOfMemory` alone.
+/// Only `OutOfMemory`.
 pub fn gt_eq_scalar(array: &BooleanArray, scalar: bool) -> Result<BooleanArray>
     ensures items { IfOk result (λ a. boolean_items a
         ≡ map (option_map (λ value. bool_le scalar value)) (boolean_items array.now)) }
@@ -147,7 +147,7 @@ fn compare_pairs(lhs: &BooleanArray, rhs: &BooleanArray, table: u8) -> Result<Bo
 ///
 /// # Errors
 ///
-/// `OutOfMemory` alone.
+/// Only `OutOfMemory`.
 pub fn eq(lhs: &BooleanArray, rhs: &BooleanArray) -> Result<BooleanArray>
     requires same_length { length (boolean_items lhs.now) ≡ length (boolean_items rhs.now) }
     ensures items { IfOk result (λ a. boolean_items a
@@ -164,7 +164,7 @@ pub fn eq(lhs: &BooleanArray, rhs: &BooleanArray) -> Result<BooleanArray>
 ///
 /// # Errors
 ///
-/// `OutOfMemory` alone.
+/// Only `OutOfMemory`.
 pub fn neq(lhs: &BooleanArray, rhs: &BooleanArray) -> Result<BooleanArray>
     requires same_length { length (boolean_items lhs.now) ≡ length (boolean_items rhs.now) }
     ensures items { IfOk result (λ a. boolean_items a
@@ -181,7 +181,7 @@ pub fn neq(lhs: &BooleanArray, rhs: &BooleanArray) -> Result<BooleanArray>
 ///
 /// # Errors
 ///
-/// `OutOfMemory` alone.
+/// Only `OutOfMemory`.
 pub fn lt(lhs: &BooleanArray, rhs: &BooleanArray) -> Result<BooleanArray>
     requires same_length { length (boolean_items lhs.now) ≡ length (boolean_items rhs.now) }
     ensures items { IfOk result (λ a. boolean_items a
@@ -198,7 +198,7 @@ pub fn lt(lhs: &BooleanArray, rhs: &BooleanArray) -> Result<BooleanArray>
 ///
 /// # Errors
 ///
-/// `OutOfMemory` alone.
+/// Only `OutOfMemory`.
 pub fn lt_eq(lhs: &BooleanArray, rhs: &BooleanArray) -> Result<BooleanArray>
     requires same_length { length (boolean_items lhs.now) ≡ length (boolean_items rhs.now) }
     ensures items { IfOk result (λ a. boolean_items a
@@ -215,7 +215,7 @@ pub fn lt_eq(lhs: &BooleanArray, rhs: &BooleanArray) -> Result<BooleanArray>
 ///
 /// # Errors
 ///
-/// `OutOfMemory` alone.
+/// Only `OutOfMemory`.
 pub fn gt(lhs: &BooleanArray, rhs: &BooleanArray) -> Result<BooleanArray>
     requires same_length { length (boolean_items lhs.now) ≡ length (boolean_items rhs.now) }
     ensures items { IfOk result (λ a. boolean_items a
@@ -232,7 +232,7 @@ pub fn gt(lhs: &BooleanArray, rhs: &BooleanArray) -> Result<BooleanArray>
 ///
 /// # Errors
 ///
-/// `OutOfMemory` alone.
+/// Only `OutOfMemory`.
 pub fn gt_eq(lhs: &BooleanArray, rhs: &BooleanArray) -> Result<BooleanArray>
     requires same_length { length (boolean_items lhs.now) ≡ length (boolean_items rhs.now) }
     ensures items { IfOk result (λ a. boolean_items a

@@ -8,7 +8,7 @@ use crate::offsets::calls::error_code;
 use arrow2_offset::slices::last;
 use arrow2_offset::widths::{write_narrow, write_wide};
 
-/// Writes the same numbers, in 64 bits each.
+/// Writes the offsets to `out`, in 64 bits each.
 ///
 /// Returns the code of `arrow2_offsets32_check` where the numbers are not offsets, else `ARROW2_LENGTH` exactly where
 /// `out` has more or fewer items than `offsets`.
@@ -27,13 +27,15 @@ pub extern "C" fn arrow2_offsets_widen(offsets: &[i32], out: &mut [i64]) -> u32
     ARROW2_OK
 }
 
-/// Writes the same numbers, in 32 bits each.
+/// Writes the offsets to `out`, in 32 bits each.
 ///
 /// Returns the code of `arrow2_offsets64_check` where the numbers are not offsets, else `ARROW2_LENGTH` exactly where
 /// `out` has more or fewer items than `offsets`, else `ARROW2_OVERFLOW` exactly where the last number is above
 /// 2147483647.
 #[unsafe(no_mangle)]
 pub extern "C" fn arrow2_offsets_narrow(offsets: &[i64], out: &mut [i32]) -> u32
+    // The tests in the order of their codes: offsets, equal lengths, last offset. Then what `ARROW2_OK` writes, and
+    // that any other code writes nothing.
     ensures { WritesFromOffsetsOr result offsets.now (length out.old ≡ length offsets.now)
         (last_of offsets.now ≤ 2147483647) ARROW2_OVERFLOW
         (out.new ≡ offsets.now) (out.new ≡ out.old) }

@@ -7,7 +7,7 @@ use super::checks::{assert_that, gives, ok, rejects, shows};
 use arrow2_array::{BooleanArray, MutableBooleanArray};
 use arrow2_bitmap::Bitmap;
 use arrow2_types::Result;
-use std::alloc::Global;
+use std::alloc::{AllocError, Global};
 use std::process::Abort;
 
 /// Returns the bitmap of a thousand bits that repeat those of one byte.
@@ -105,11 +105,41 @@ fn arrays_are_made_of_options_and_grow(rt: HostRuntime) {
     grew(&rt, array.reserve(2));
     grew(&rt, array.push(Some(false)));
     grew(&rt, array.push_null());
+    grew(&rt, array.extend_from_slice(&[false, true]));
+    grew(&rt, array.extend_from_options(&[None, Some(false)]));
     grew(&rt, array.extend_constant(2, Some(true)));
     grew(&rt, array.extend_from_array(&other, 1, 3));
-    assert_that(&rt, array.len() == 7);
+    assert_that(&rt, array.len() == 11);
     assert_that(&rt, array.pop() == Some(Some(true)));
+    grew(&rt, array.shrink_to_fit());
     assert_that(&rt, !array.is_empty());
-    let text = "BooleanArray[false, None, true, true, None, false]";
+    let text = "BooleanArray[false, None, false, true, None, false, true, true, None, false]";
     has_text(&rt, alloc, array.freeze(), text);
+}
+
+/// Checks how many values were collected, and that these come first.
+fn begins(
+    rt: &impl Abort,
+    call: std::result::Result<Vec<bool>, AllocError>,
+    len: usize,
+    first: &[bool],
+) {
+    let values = ok(rt, call);
+    assert_that(rt, values.len() == len);
+    assert_that(rt, values.as_slice().starts_with(first));
+}
+
+#[test]
+fn arrays_are_made_of_iterators_and_give_their_values(rt: HostRuntime) {
+    let alloc = rt.alloc();
+    let source = array_of(&rt, alloc, 0b10100110, 0b11001100);
+    let items = MutableBooleanArray::try_from_iter(alloc, source.iter());
+    let array = ok(&rt, ok(&rt, items).freeze());
+    assert_that(&rt, array == source);
+    let values = source.values_iter().collect(alloc);
+    begins(&rt, values, 1000, &[false, true, true, false]);
+    let values = source.values_iter().rev().collect(alloc);
+    begins(&rt, values, 1000, &[true, false, true, false]);
+    let values = source.non_null_values_iter().collect(alloc);
+    begins(&rt, values, 500, &[true, false, false, true]);
 }

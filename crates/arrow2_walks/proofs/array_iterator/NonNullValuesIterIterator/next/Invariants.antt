@@ -1,6 +1,6 @@
 use Rattle.std.proofs.Common.{◌≡◌, length}
 use Rattle.arrow2_walks.specs.Selections.{non_null_values}
-use Rattle.arrow2_text.proofs.iterator.ArrayNonNullValuesIterIterator.next.Given as goal
+use Rattle.arrow2_walks.proofs.array_iterator.NonNullValuesIterIterator.next.Given as goal
 
 abbrev pub invariant-loop-item : goal.invariant-loop-item
 invariant-loop-item g l = non_null_values l.self-inside.items ≡ l.fn.self
