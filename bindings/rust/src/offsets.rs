@@ -12,7 +12,8 @@ mod sealed {
         /// The numbers must be offsets.
         unsafe fn lengths_unchecked(offsets: &[Self], out: &mut [usize]) -> u32;
 
-        /// Writes `offsets[from + i] - offsets[from]` to each item `i` of `out`, without a test of the offsets.
+        /// Writes `offsets[from + i] - offsets[from]` to `out[i]`, for each index `i` of `out`, without a test of the
+        /// offsets.
         ///
         /// # Safety
         ///
@@ -50,7 +51,7 @@ pub trait Offset: sealed::Sealed + Copy {
     /// the exact sum of `start` and all lengths is above the greatest offset, `i32::MAX` or `i64::MAX`.
     fn from_lengths(start: usize, lengths: &[usize], out: &mut [Self]) -> Result<(), Error>;
 
-    /// Writes `offsets[from + i] - offsets[from]` to each item `i` of `out`.
+    /// Writes `offsets[from + i] - offsets[from]` to `out[i]`, for each index `i` of `out`.
     ///
     /// # Errors
     ///
@@ -201,7 +202,7 @@ impl<'a, O: Offset> CheckedOffsets<'a, O> {
         to_result(unsafe { O::lengths_unchecked(self.0, out) })
     }
 
-    /// Writes offset `from + i` minus offset `from` to each item `i` of `out`.
+    /// Writes offset `from + i` minus offset `from` to `out[i]`, for each index `i` of `out`.
     ///
     /// # Errors
     ///

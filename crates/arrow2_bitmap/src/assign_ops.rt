@@ -15,9 +15,10 @@ use arrow2_kernels::truth_tables::binary_outputs;
 use arrow2_kernels::{NoList, OneList};
 use std::ops::{BitAnd, BitAndAssign, BitOr, BitOrAssign, BitXor, BitXorAssign, Not};
 
-/// Replaces each word of type `T` of the bitmap by the result of `op` for it. The last word is padded with false, and
-/// bits that `op` sets in the padding are cleared. The length and the capacity stay. Does not allocate. Requires that
-/// the `requires` of `op` holds for any word, not only for those of the bitmap.
+/// Replaces each word of type `T` of the bitmap by the result of `op` for it. The first item of a word is its lowest
+/// bit. The last word is padded with false, and bits that `op` sets in the padding are cleared. The length and the
+/// capacity stay. Does not allocate. Requires that the `requires` of `op` holds for any word, not only for those of the
+/// bitmap.
 ///
 /// For any `op` the clauses state that the items are the bits of result words, and that each result word is one that
 /// the contract of `op` allows for the input word at its index. If the contract of `op` determines each result word
@@ -26,16 +27,16 @@ use std::ops::{BitAnd, BitAndAssign, BitOr, BitOrAssign, BitXor, BitXorAssign, N
 /// Differs from arrow2: the padding bits of the words count as false, and are false afterwards.
 pub fn unary_assign<T: BitChunk, F: Fn(T) -> T>(bitmap: &mut MutableBitmap, op: F)
     requires callable { F.IsAlwaysCallable op }
-    // If the results of `op` are those of a mathematical function `f` on words: the items are the `T.WIDTH` lowest bits
-    // of the results of `f` for the words of the list, one result after another, cut to the length of the list.
+    // `T.WIDTH` is the number of bits of a `T`, and `T.number x` the number that a word `x` is. If the results of `op`
+    // are those of a mathematical function `f` on words: the items are the `T.WIDTH` lowest bits of the results of `f`
+    // for the words of the list, one result after another, cut to the length of the list.
     ensures kernel { (f : ℕ → ℕ) → ComputesUnary T.WIDTH T.number (F.post op) f →
         bitmap.new.items ≡ unary_kernel T.WIDTH f bitmap.old.items }
     // For every truth table `t` by which `op` computes each bit: the items are the outputs of `t`.
     ensures table { (t : ℕ) → IsBitwiseUnary T.WIDTH T.number (F.post op) t →
         bitmap.new.items ≡ each t (bitmap.old.items ∷ []) }
     // For any `op`: the items are the bits of words, one word after another, cut to the length. The word at each index
-    // is one that `op` may return for the word of the list at this index. `T.WIDTH` is the number of bits of a `T`, and
-    // `T.number` its value.
+    // is one that `op` may return for the word of the list at this index.
     ensures results { AreJoinedResults T.WIDTH (length bitmap.old.items)
         (λ j. MayReturnUnary T.number (F.post op) (word T.WIDTH bitmap.old.items j)) bitmap.new.items }
     ensures len { length bitmap.new.items ≡ length bitmap.old.items }
@@ -46,9 +47,9 @@ pub fn unary_assign<T: BitChunk, F: Fn(T) -> T>(bitmap: &mut MutableBitmap, op: 
 }
 
 /// Replaces each word of type `T` of `lhs` by the result of `op` for it and the word of `rhs` at the same index. The
-/// last words are padded with false, and bits that `op` sets in the padding are cleared. The length and the capacity
-/// stay. Does not allocate. Requires equal lengths, and that the `requires` of `op` holds for any two words, not only
-/// for those of the bitmaps.
+/// first item of a word is its lowest bit. The last words are padded with false, and bits that `op` sets in the padding
+/// are cleared. The length and the capacity stay. Does not allocate. Requires equal lengths, and that the `requires` of
+/// `op` holds for any two words, not only for those of the bitmaps.
 ///
 /// For any `op` the clauses state that the items are the bits of result words, and that each result word is one that
 /// the contract of `op` allows for the input words at its index. If the contract of `op` determines each result word
@@ -58,16 +59,16 @@ pub fn unary_assign<T: BitChunk, F: Fn(T) -> T>(bitmap: &mut MutableBitmap, op: 
 pub fn binary_assign<T: BitChunk, F: Fn(T, T) -> T>(lhs: &mut MutableBitmap, rhs: &Bitmap, op: F)
     requires callable { F.IsAlwaysCallable op }
     requires same_length { length lhs.old.items ≡ length (items_of rhs.now) }
-    // If the results of `op` are those of a mathematical function `f` on words: the items are the `T.WIDTH` lowest bits
-    // of the results of `f` for the words of both lists at each index, one result after another, cut to their length.
+    // `T.WIDTH` is the number of bits of a `T`, and `T.number x` the number that a word `x` is. If the results of `op`
+    // are those of a mathematical function `f` on words: the items are the `T.WIDTH` lowest bits of the results of `f`
+    // for the words of both lists at each index, one result after another, cut to their length.
     ensures kernel { (f : ℕ → ℕ → ℕ) → ComputesBinary T.WIDTH T.number (F.post op) f →
         lhs.new.items ≡ binary_kernel T.WIDTH f lhs.old.items (items_of rhs.now) }
     // For every truth table `t` by which `op` computes each bit: the items are the outputs of `t`.
     ensures table { (t : ℕ) → IsBitwiseBinary T.WIDTH T.number (F.post op) t →
         lhs.new.items ≡ each t (lhs.old.items ∷ items_of rhs.now ∷ []) }
     // For any `op`: the items are the bits of words, one word after another, cut to the length. The word at each index
-    // is one that `op` may return for the words of both lists at this index. `T.WIDTH` is the number of bits of a `T`,
-    // and `T.number` its value.
+    // is one that `op` may return for the words of both lists at this index.
     ensures results { AreJoinedResults T.WIDTH (length lhs.old.items)
         (λ j. MayReturnBinary T.number (F.post op) (word T.WIDTH lhs.old.items j)
         (word T.WIDTH (items_of rhs.now) j)) lhs.new.items }
@@ -92,16 +93,16 @@ fn assign_chunks<T: BitChunk, I: BitChunkIterExact<T> + Drop, F: Fn(T, T) -> T>(
 )
     requires callable { F.IsAlwaysCallable op }
     requires same_length { length lhs.old.items ≡ length (I.cursor chunks).items }
-    // If the results of `op` are those of a mathematical function `f` on words: the items are the `T.WIDTH` lowest bits
-    // of the results of `f` for the words of both lists at each index, one result after another, cut to their length.
+    // `T.WIDTH` is the number of bits of a `T`, and `T.number x` the number that a word `x` is. If the results of `op`
+    // are those of a mathematical function `f` on words: the items are the `T.WIDTH` lowest bits of the results of `f`
+    // for the words of both lists at each index, one result after another, cut to their length.
     ensures kernel { (f : ℕ → ℕ → ℕ) → ComputesBinary T.WIDTH T.number (F.post op) f →
         lhs.new.items ≡ binary_kernel T.WIDTH f lhs.old.items (I.cursor chunks).items }
     // For every truth table `t` by which `op` computes each bit: the items are the outputs of `t`.
     ensures table { (t : ℕ) → IsBitwiseBinary T.WIDTH T.number (F.post op) t →
         lhs.new.items ≡ each t (lhs.old.items ∷ (I.cursor chunks).items ∷ []) }
     // For any `op`: the items are the bits of words, one word after another, cut to the length. The word at each index
-    // is one that `op` may return for the words of both lists at this index. `T.WIDTH` is the number of bits of a `T`,
-    // and `T.number` its value.
+    // is one that `op` may return for the words of both lists at this index.
     ensures results { AreJoinedResults T.WIDTH (length lhs.old.items)
         (λ j. MayReturnBinary T.number (F.post op) (word T.WIDTH lhs.old.items j)
         (word T.WIDTH (I.cursor chunks).items j)) lhs.new.items }
@@ -114,8 +115,8 @@ fn assign_chunks<T: BitChunk, I: BitChunkIterExact<T> + Drop, F: Fn(T, T) -> T>(
 /// Replaces each item by the output of the truth table `t`: bit `a` of `t`, where `a` is the item as 0 or 1. Reads only
 /// the two lowest bits of `t`. The capacity stays. Does not allocate.
 ///
-/// The type parameter `W` has no effect: the call processes 32 bytes at a time, whatever `W` is. The other functions of
-/// this module take a word type too.
+/// The type parameter `W` has no effect: the call processes 32 bytes at a time, whatever `W` is. It is there since
+/// `unary_assign` and `binary_assign` take a word type.
 ///
 /// arrow2 has no such call.
 pub fn unary_assign_table<W: BitChunk>(bitmap: &mut MutableBitmap, t: u8)
@@ -129,8 +130,8 @@ pub fn unary_assign_table<W: BitChunk>(bitmap: &mut MutableBitmap, t: u8)
 /// `lhs` and `rhs` as 0 or 1. Reads only the four lowest bits of `t`. The capacity stays. Requires that both have equal
 /// lengths. Does not allocate.
 ///
-/// Processes 32 bytes at a time where `rhs` begins at a byte boundary, else words of `W`. The result does not depend on
-/// `W`.
+/// Processes 32 bytes at a time where `rhs` begins at a byte boundary, else one word of `W` at a time. The result does
+/// not depend on `W`.
 ///
 /// arrow2 has no such call.
 #[inline(always)]

@@ -20,9 +20,11 @@ use std::alloc::Global;
 use std::convert::TryFrom;
 use std::ops::{BitAnd, BitOr, BitXor, Not};
 
-/// Reads several lists of `len` booleans each as words of 64 bits, applies `op` to each row of words, and returns a
-/// bitmap of the first `len` bits of the results. A row is the words of all lists at one index. Requires that all lists
-/// have `len` items, and that the `requires` of `op` holds for any words, not only for those of these lists.
+/// Reads lists of `len` booleans each as words of 64 bits, the last word of each list padded with false, applies `op`
+/// to each row of words, and returns a bitmap of the first `len` bits of the results. The first item of a word is its
+/// lowest bit. A row is the words of all lists at one index; `rows` is, for example,
+/// `OneList { chunks: bitmap.chunks() }` of `arrow2_kernels`. Requires that all lists have `len` items, and that the
+/// `requires` of `op` holds for any words, not only for those of these lists.
 ///
 /// For any `op` the clauses state that the items are the bits of result words, and that each result word is one that
 /// the contract of `op` allows for the input words at its index. If the contract of `op` determines each result word
@@ -75,8 +77,8 @@ pub fn from_rows<S: WordRows<u64>, F: Fn(S::Row) -> u64>(
 }
 
 /// Reads the items as words of 64 bits, the last one padded with false, applies `op` to each word, and returns the bits
-/// of the results, cut to the same length. Requires that the `requires` of `op` holds for any word, not only for those
-/// of the bitmap.
+/// of the results, cut to the length of the bitmap. The first item of a word is its lowest bit. Requires that the
+/// `requires` of `op` holds for any word, not only for those of the bitmap.
 ///
 /// For any `op` the clauses state that the items are the bits of result words, and that each result word is one that
 /// the contract of `op` allows for the input word at its index. If the contract of `op` determines each result word
@@ -121,9 +123,9 @@ pub fn unary<F: Fn(u64) -> u64>(lhs: &Bitmap, op: F) -> Result<Bitmap>
     }
 }
 
-/// Reads the items of both as words of 64 bits, the last ones padded with false, applies `op` to the two words at each
-/// index, and returns the bits of the results, cut to the same length. Requires equal lengths, and that the `requires`
-/// of `op` holds for any two words, not only for those of the bitmaps.
+/// Reads the items of both bitmaps as words of 64 bits, the last ones padded with false, applies `op` to the two words
+/// at each index, and returns the bits of the results, cut to their length. The first item of a word is its lowest bit.
+/// Requires equal lengths, and that the `requires` of `op` holds for any two words, not only for those of the bitmaps.
 ///
 /// For any `op` the clauses state that the items are the bits of result words, and that each result word is one that
 /// the contract of `op` allows for the input words at its index. If the contract of `op` determines each result word
@@ -152,7 +154,7 @@ pub fn binary<F: Fn(u64, u64) -> u64>(lhs: &Bitmap, rhs: &Bitmap, op: F) -> Resu
     // is one that `op` may return for the words of both lists at this index.
     ensures results { IfOk result (λ b. AreJoinedResults 64 (length (items_of lhs.now))
         (λ j. F.post op (bitmap_word 64 lhs.now j) (bitmap_word 64 rhs.now j)) (items_of b)) }
-    // The new bitmap has the length of the input. It is stored in canonical bytes, from bit 0 on. The only error is
+    // The new bitmap has the length of the inputs. It is stored in canonical bytes, from bit 0 on. The only error is
     // `OutOfMemory`.
     ensures len { IfOk result (λ b. length (items_of b) ≡ length (items_of lhs.now)) }
     ensures storage { IfOk result (λ b. IsPacked b) }

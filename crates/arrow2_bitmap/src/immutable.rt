@@ -222,7 +222,7 @@ impl Bitmap {
     /// # Errors
     ///
     /// `Overflow` or `OutOfMemory`. `Overflow` comes only if the contract of the iterator allows more than `usize::MAX`
-    /// items.
+    /// items. After either error, the iterator and the items so far are dropped.
     pub fn try_from_iter<I: IntoIterator<Item = bool>>(alloc: Global, iter: I) -> Result<Bitmap>
         requires { IsFiniteIterable I.into_iter_gives I.IntoIter.can_next I.IntoIter.remaining iter }
         // `it` is an iterator that `iter` may turn into, and `p` a run of it: calls of `next` up to the first `None`.
@@ -416,12 +416,13 @@ impl Bitmap {
 
     /// Returns an iterator over the full words of `T`. The first item of a word is its lowest bit.
     ///
-    /// The word that `remainder` returns has the items after the full words. Its bits above these items are not
-    /// cleared: mask it to `remainder_len` bits.
+    /// The word that `remainder` returns has the items after the full words in its lowest bits. Its bits above these
+    /// items are not cleared: mask it to `remainder_len` bits.
     ///
     /// In the contract, `spill` is this word, with the bits that are not cleared: from its lowest bit on the items
     /// after the full words, then stored bits that are no items, then zeros. The stored bits end with the byte of the
-    /// last item or, where the bitmap has no full word, with the last byte of the storage.
+    /// last item or, where the bitmap has no full word, with the last byte of the storage, but never past the width of
+    /// the word.
     pub fn chunks<T: BitChunk>(&self) -> BitChunks<'_, T>
         ensures items { result.items ≡ items_of self.now }
         ensures fits { length (items_of self.now) < 2 ^ 64 }
@@ -485,8 +486,9 @@ impl Bitmap {
     /// the slice. Where `L` is the length before the call, this number (`slice_reads`) is:
     ///
     /// - 0 where `len` is `L`,
-    /// - the number of bytes that hold the slice where `len` is below `L / 2`,
-    /// - else the number of bytes that hold the items before the slice, plus that of the items after it.
+    /// - the number of bytes that hold the slice where `len` is below `L / 2`, rounded down,
+    /// - else the number of bytes that hold the items before the slice, plus the number of bytes that hold the items
+    ///   after it: a byte that holds items of both counts twice.
     ///
     /// It is at most `L / 16 + 4`. No clause states that every byte that the call reads is counted.
     ///

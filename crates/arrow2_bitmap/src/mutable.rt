@@ -160,7 +160,7 @@ impl MutableBitmap {
     /// # Errors
     ///
     /// `Overflow` or `OutOfMemory`. `Overflow` comes only if the contract of the iterator allows more than `usize::MAX`
-    /// items.
+    /// items. After either error, the iterator and the items so far are dropped.
     pub fn try_from_iter<I: IntoIterator<Item = bool>>(
         alloc: Global,
         iter: I,

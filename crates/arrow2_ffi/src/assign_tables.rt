@@ -1,6 +1,8 @@
 //! Truth tables in place: the first input is the first `length` bits of `bytes`, and the outputs are written over it.
 //! Bit `a1 + 2 * a2 + 4 * a3 + 8 * a4` of a table is its output for inputs `a1` to `a4`. `bytes` must have exactly the
 //! number of bytes that hold `length` bits. Padding bits become 0, whatever they were.
+//!
+//! With a code other than `ARROW2_OK` nothing is written.
 ghost use Rattle.std.specs.Prelude.{[], ◌∷◌};
 ghost use Rattle.arrow2_ffi.specs.Writes.{WritesTableInPlace};
 
@@ -9,10 +11,10 @@ use crate::codes::{ARROW2_LENGTH, ARROW2_OK, ARROW2_RANGE};
 use crate::in_place::{assign_four, assign_three, assign_two};
 use arrow2_kernels::simd_assign::assign_unary;
 
-/// Replaces the first `length` bits by the outputs of a table of one input.
+/// Replaces the first `length` bits of `bytes` by the outputs of a table of one input.
 ///
-/// Returns `ARROW2_RANGE` exactly where `table` is above 3, else `ARROW2_LENGTH` exactly where `bytes` does not have
-/// exactly the bytes that hold `length` bits.
+/// Returns `ARROW2_RANGE` exactly where `table` is above 3, else `ARROW2_LENGTH` exactly where the number of bytes of
+/// `bytes` is not the one that `length` bits need.
 #[unsafe(no_mangle)]
 pub extern "C" fn arrow2_unary_assign_table(bytes: &mut [u8], length: usize, table: u16) -> u32
     // A table of one input is below 2 ^ 2.
@@ -28,11 +30,11 @@ pub extern "C" fn arrow2_unary_assign_table(bytes: &mut [u8], length: usize, tab
     ARROW2_OK
 }
 
-/// Replaces each of the first `length` bits by the output of a table of two inputs: this bit, and the bit at the same
-/// index of the second input, counted from its offset.
+/// Replaces each of the first `length` bits of `bytes` by the output of a table of two inputs: this bit, and the bit at
+/// the same index of the second input, counted from its offset.
 ///
 /// Returns `ARROW2_RANGE` exactly where `table` is above 15 or the bits of the second input are not inside its bytes,
-/// else `ARROW2_LENGTH` exactly where `bytes` does not have exactly the bytes that hold `length` bits.
+/// else `ARROW2_LENGTH` exactly where the number of bytes of `bytes` is not the one that `length` bits need.
 #[unsafe(no_mangle)]
 pub extern "C" fn arrow2_binary_assign_table(
     bytes: &mut [u8],
@@ -59,7 +61,7 @@ pub extern "C" fn arrow2_binary_assign_table(
 /// Does what `arrow2_binary_assign_table` does, for a table of three inputs.
 ///
 /// Returns `ARROW2_RANGE` exactly where `table` is above 255 or the bits of the second or third input are not inside
-/// its bytes, else `ARROW2_LENGTH` exactly where `bytes` does not have exactly the bytes that hold `length` bits.
+/// its bytes, else `ARROW2_LENGTH` exactly where the number of bytes of `bytes` is not the one that `length` bits need.
 #[unsafe(no_mangle)]
 pub extern "C" fn arrow2_ternary_assign_table(
     bytes: &mut [u8],
@@ -89,7 +91,7 @@ pub extern "C" fn arrow2_ternary_assign_table(
 /// Does what `arrow2_binary_assign_table` does, for a table of four inputs.
 ///
 /// Returns `ARROW2_RANGE` exactly where the bits of the second, third or fourth input are not inside its bytes, else
-/// `ARROW2_LENGTH` exactly where `bytes` does not have exactly the bytes that hold `length` bits.
+/// `ARROW2_LENGTH` exactly where the number of bytes of `bytes` is not the one that `length` bits need.
 #[unsafe(no_mangle)]
 pub extern "C" fn arrow2_quaternary_assign_table(
     bytes: &mut [u8],

@@ -52,8 +52,9 @@ pub extern "C" fn arrow2_bits_check(bytes: usize, offset: usize, length: usize) 
     ARROW2_OK
 }
 
-/// Checks that the `length` values from value `offset` on, of `width` bytes each, are inside `bytes` bytes. Values of
-/// width 0 always are.
+/// Checks that the `length` values from value `offset` on, of `width` bytes each, are inside `bytes` bytes:
+/// `(offset + length) * width`, computed exactly, is at most `bytes`, also where `length` is 0. Values of width 0
+/// always are.
 ///
 /// Returns `ARROW2_RANGE` exactly where they are not.
 #[unsafe(no_mangle)]

@@ -49,12 +49,13 @@ impl<'a> Side<'a> {
     }
 }
 
-/// Writes the values of AND to `values`, and which are not null to `validity`. An item is false where either side is
-/// false, else null where either is null, else true. The value under a null is AND of both values.
+/// Writes to `values` the values of AND, and to `validity` which of them are not null. An item of the result is false
+/// where at least one side has an item that is false and not null; else null where at least one side has a null; else
+/// true. The value under a null is the AND of both values.
 ///
 /// Returns `ARROW2_RANGE` exactly where `length` bits of the values or of the validity of a side, each from its offset
-/// on, are not inside their bytes, also for a `length` of 0; else `ARROW2_LENGTH` exactly where `values` or `validity`
-/// does not have exactly the bytes that hold the items.
+/// on, are not inside their bytes, also for a `length` of 0; else `ARROW2_LENGTH` exactly where the number of bytes of
+/// `values` or of `validity` is not the one that `length` bits need.
 #[unsafe(no_mangle)]
 pub extern "C" fn arrow2_and_kleene(
     lhs: &[u8],
@@ -83,8 +84,9 @@ pub extern "C" fn arrow2_and_kleene(
     write::<AND_VALUES, AND_KNOWN, AND_KNOWN_PAIRED>(lhs, rhs, length, values, validity)
 }
 
-/// Writes the values of OR to `values`, and which are not null to `validity`. An item is true where either side is
-/// true, else null where either is null, else false. The value under a null is OR of both values.
+/// Writes to `values` the values of OR, and to `validity` which of them are not null. An item of the result is true
+/// where at least one side has an item that is true and not null; else null where at least one side has a null; else
+/// false. The value under a null is the OR of both values.
 ///
 /// Returns the codes of `arrow2_and_kleene`, in the same cases.
 #[unsafe(no_mangle)]
@@ -120,7 +122,7 @@ pub extern "C" fn arrow2_or_kleene(
 ///
 /// Returns `ARROW2_RANGE` exactly where `length` bits of the values of a side, or of a validity that is not ignored,
 /// each from its offset on, are not inside their bytes, also for a `length` of 0; else `ARROW2_LENGTH` exactly where
-/// the output `values` or `validity` does not have exactly the bytes that hold the items.
+/// the number of bytes of `values` or of `validity` is not the one that `length` bits need.
 #[unsafe(no_mangle)]
 pub extern "C" fn arrow2_and_kleene_optional(
     lhs: &[u8],

@@ -36,8 +36,8 @@ pub extern "C" fn arrow2_offsets32_lengths(offsets: &[i32], out: &mut [usize]) -
     lengths(offsets, out)
 }
 
-/// Writes the length of each slot to `out`, as `arrow2_offsets32_lengths` does, and tests no offset. Requires at
-/// least one number, and that `arrow2_offsets32_check` returns `ARROW2_OK` for the numbers. With other numbers the
+/// Writes the length of each slot to `out`, as `arrow2_offsets32_lengths` does, and tests no offset. Requires that
+/// `arrow2_offsets32_check` returns `ARROW2_OK` for the numbers, so there is at least one. With other numbers the
 /// behaviour is undefined: memory outside `offsets` may be read.
 ///
 /// Returns `ARROW2_LENGTH` exactly where the number of items of `out` is not that of `offsets` minus 1.
@@ -49,10 +49,11 @@ pub extern "C" fn arrow2_offsets32_lengths_unchecked(offsets: &[i32], out: &mut 
     lengths_unchecked(offsets, out)
 }
 
-/// Writes offsets of 32 bits to `out`: first `start`, then for each length `start` plus all lengths up to this one.
+/// Writes offsets of 32 bits to `out`: first `start`, then for each length the sum of `start` and all lengths up to and
+/// including this one.
 ///
 /// Returns `ARROW2_LENGTH` exactly where the number of items of `out` is not that of `lengths` plus 1, else
-/// `ARROW2_OVERFLOW` exactly where `start` and all lengths, added up exactly, are above 2147483647.
+/// `ARROW2_OVERFLOW` exactly where the exact sum of `start` and all lengths is above 2147483647.
 #[unsafe(no_mangle)]
 pub extern "C" fn arrow2_offsets32_from_lengths(
     start: usize,
@@ -69,7 +70,7 @@ pub extern "C" fn arrow2_offsets32_from_lengths(
     sums(start, lengths, out)
 }
 
-/// Sets `out[i]` to `offsets[from + i] - offsets[from]` for each item `i` of `out`. So the written offsets begin at 0,
+/// Sets `out[i]` to `offsets[from + i] - offsets[from]` for each index `i` of `out`. So the written offsets begin at 0,
 /// and each slot keeps its length. Offsets have 32 bits.
 ///
 /// Returns the code of `arrow2_offsets32_check` where the numbers are not offsets, else `ARROW2_LENGTH` exactly where
@@ -82,8 +83,8 @@ pub extern "C" fn arrow2_offsets32_rebase(offsets: &[i32], from: usize, out: &mu
     rebase(offsets, from, out)
 }
 
-/// Fills `out` with offsets of 32 bits, as `arrow2_offsets32_rebase` does, and tests no offset. Requires at
-/// least one number, and that `arrow2_offsets32_check` returns `ARROW2_OK` for the numbers. With other numbers the
+/// Fills `out` with offsets of 32 bits, as `arrow2_offsets32_rebase` does, and tests no offset. Requires that
+/// `arrow2_offsets32_check` returns `ARROW2_OK` for the numbers, so there is at least one. With other numbers the
 /// behaviour is undefined: memory outside `offsets` may be read.
 ///
 /// Returns `ARROW2_LENGTH` exactly where `out` has no item, else `ARROW2_RANGE` exactly where `from` plus the number of
@@ -124,8 +125,8 @@ pub extern "C" fn arrow2_offsets64_lengths(offsets: &[i64], out: &mut [usize]) -
     lengths(offsets, out)
 }
 
-/// Writes the length of each slot to `out`, as `arrow2_offsets64_lengths` does, and tests no offset. Requires at
-/// least one number, and that `arrow2_offsets64_check` returns `ARROW2_OK` for the numbers. With other numbers the
+/// Writes the length of each slot to `out`, as `arrow2_offsets64_lengths` does, and tests no offset. Requires that
+/// `arrow2_offsets64_check` returns `ARROW2_OK` for the numbers, so there is at least one. With other numbers the
 /// behaviour is undefined: memory outside `offsets` may be read.
 ///
 /// Returns `ARROW2_LENGTH` exactly where the number of items of `out` is not that of `offsets` minus 1.
@@ -137,10 +138,11 @@ pub extern "C" fn arrow2_offsets64_lengths_unchecked(offsets: &[i64], out: &mut 
     lengths_unchecked(offsets, out)
 }
 
-/// Writes offsets of 64 bits to `out`: first `start`, then for each length `start` plus all lengths up to this one.
+/// Writes offsets of 64 bits to `out`: first `start`, then for each length the sum of `start` and all lengths up to and
+/// including this one.
 ///
 /// Returns `ARROW2_LENGTH` exactly where the number of items of `out` is not that of `lengths` plus 1, else
-/// `ARROW2_OVERFLOW` exactly where `start` and all lengths, added up exactly, are above 9223372036854775807.
+/// `ARROW2_OVERFLOW` exactly where the exact sum of `start` and all lengths is above 9223372036854775807.
 #[unsafe(no_mangle)]
 pub extern "C" fn arrow2_offsets64_from_lengths(
     start: usize,
@@ -157,7 +159,7 @@ pub extern "C" fn arrow2_offsets64_from_lengths(
     sums(start, lengths, out)
 }
 
-/// Sets `out[i]` to `offsets[from + i] - offsets[from]` for each item `i` of `out`. So the written offsets begin at 0,
+/// Sets `out[i]` to `offsets[from + i] - offsets[from]` for each index `i` of `out`. So the written offsets begin at 0,
 /// and each slot keeps its length. Offsets have 64 bits.
 ///
 /// Returns the code of `arrow2_offsets64_check` where the numbers are not offsets, else `ARROW2_LENGTH` exactly where
@@ -170,8 +172,8 @@ pub extern "C" fn arrow2_offsets64_rebase(offsets: &[i64], from: usize, out: &mu
     rebase(offsets, from, out)
 }
 
-/// Fills `out` with offsets of 64 bits, as `arrow2_offsets64_rebase` does, and tests no offset. Requires at
-/// least one number, and that `arrow2_offsets64_check` returns `ARROW2_OK` for the numbers. With other numbers the
+/// Fills `out` with offsets of 64 bits, as `arrow2_offsets64_rebase` does, and tests no offset. Requires that
+/// `arrow2_offsets64_check` returns `ARROW2_OK` for the numbers, so there is at least one. With other numbers the
 /// behaviour is undefined: memory outside `offsets` may be read.
 ///
 /// Returns `ARROW2_LENGTH` exactly where `out` has no item, else `ARROW2_RANGE` exactly where `from` plus the number of

@@ -1,4 +1,6 @@
 //! The runs of set bits, each by its first index and its length.
+//!
+//! With a code other than `ARROW2_OK` nothing is written.
 ghost use Rattle.std.specs.Prelude.{◌≡◌, ◌≤◌, length};
 ghost use Rattle.arrow2_ffi.specs.Ranges.{HasBits, first_bits};
 ghost use Rattle.arrow2_ffi.specs.RunWrites.{FindsRuns, WritesRuns, run_outputs};
@@ -9,19 +11,19 @@ use arrow2_walks::{BitCursor, find_bit};
 
 /// Finds the runs of set bits among the `length` bits from bit `offset` on. Index 0 is bit `offset`.
 ///
-/// The search begins at index `at`. If `at` is inside a run, finds only the part from `at` on. Writes the index at
-/// which each run begins to `starts`, and its length in bits to `lengths`, until the slices are full or no run is left.
-/// Writes how many runs it wrote to `count`, and where the next call goes on to `at`. `at` never falls.
+/// The search begins at index `at`. If `at` is inside a run, finds only the part from `at` on. Writes to `starts` the
+/// index at which each run begins, and to `lengths` its length in bits, until the slices are full or no run is left.
+/// Writes to `count` how many runs these are, and to `at` the index from which the next call goes on. `at` never falls.
 ///
 /// If `count` is below the length of the slices, no run is left, and `at` is `length`. If the slices are full, runs may
-/// be left. The exact value of `at` is then not specified: it is at least the end of the last run written, and at most
-/// the start of the next run, or at most `length` if there is none.
+/// be left. The exact value of `at` is then not specified: it is at least the first index plus the length of the last
+/// run written, and at most the start of the next run, or at most `length` if there is none.
 ///
 /// To find all runs, call again until `count` is below the length of the slices. With slices of length 0 this never
 /// happens: `count` is always 0, and `at` may stay as it was. What the slices hold from `count` on is not specified.
 ///
-/// Returns `ARROW2_RANGE` exactly where the bits are not inside, or `at` is above `length`; else `ARROW2_LENGTH`
-/// exactly where `starts` and `lengths` differ in length.
+/// Returns `ARROW2_RANGE` exactly where the bits are not inside `bytes`, or `at` is above `length`; else
+/// `ARROW2_LENGTH` exactly where `starts` and `lengths` differ in length.
 #[unsafe(no_mangle)]
 pub extern "C" fn arrow2_runs(
     bytes: &[u8],

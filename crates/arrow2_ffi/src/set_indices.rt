@@ -1,4 +1,6 @@
 //! The indices of set bits.
+//!
+//! With a code other than `ARROW2_OK` nothing is written.
 ghost use Rattle.std.specs.Prelude.{◌≡◌, ◌+◌, ◌<◌, ◌≤◌, ◌^◌, ℕ, List, ◌∷◌, ◌++◌, map, take, length, IfNone, IfSome};
 ghost use Rattle.std.specs.List.{All};
 ghost use Rattle.arrow2_model.specs.Bits.{unnum};
@@ -13,18 +15,19 @@ use arrow2_chunk::{BitChunk, BitChunkOnes};
 
 /// Finds the set bits among the `length` bits from bit `offset` on. Index 0 is bit `offset`.
 ///
-/// The search begins at index `at`. Writes the indices of set bits to `indices`, in rising order, until `indices` is
-/// full or no set bit is left. Writes how many indices it wrote to `count`, and where the next call goes on to `at`.
-/// `at` never falls.
+/// The search begins at index `at`. Writes to `indices` the indices of set bits, in rising order, until `indices` is
+/// full or no set bit is left. Writes to `count` how many these are, and to `at` the index from which the next call
+/// goes on. `at` never falls.
 ///
 /// If `count` is below the length of `indices`, no set bit is left, and `at` is `length`. If `indices` is full, set
 /// bits may be left. The exact value of `at` is then not specified: it is above the last index written, and at most the
 /// index of the next set bit, or at most `length` if there is none.
 ///
 /// To find all set bits, call again until `count` is below the length of `indices`. With `indices` of length 0 this
-/// never happens: `count` is always 0. What `indices` holds from `count` on is not specified.
+/// never happens: `count` is always 0, and `at` may stay as it was. What `indices` holds from `count` on is not
+/// specified.
 ///
-/// Returns `ARROW2_RANGE` exactly where the bits are not inside, or `at` is above `length`.
+/// Returns `ARROW2_RANGE` exactly where the bits are not inside `bytes`, or `at` is above `length`.
 #[unsafe(no_mangle)]
 pub extern "C" fn arrow2_set_indices(
     bytes: &[u8],

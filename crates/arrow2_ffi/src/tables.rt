@@ -3,6 +3,8 @@
 //!
 //! The outputs are written to `out` from bit 0 on. `out` must have exactly the number of bytes that hold `length` bits.
 //! Its padding bits become 0.
+//!
+//! With a code other than `ARROW2_OK` nothing is written.
 ghost use Rattle.std.specs.Prelude.{[], ◌∷◌};
 ghost use Rattle.arrow2_ffi.specs.Writes.{WritesTable};
 
@@ -11,10 +13,11 @@ use crate::codes::{ARROW2_LENGTH, ARROW2_OK, ARROW2_RANGE};
 use crate::in_place::{assign_four, assign_three, assign_two, copy};
 use arrow2_kernels::simd_assign::assign_unary;
 
-/// Writes to `out` the output of `table`, of one input, for each of the `length` bits from bit `offset` on.
+/// Writes to `out` the output of `table`, a truth table of one input, for each of the `length` bits from bit `offset`
+/// on.
 ///
-/// Returns `ARROW2_RANGE` exactly where `table` is above 3 or the bits are not inside their bytes, else
-/// `ARROW2_LENGTH` exactly where `out` does not have exactly the bytes that hold `length` bits.
+/// Returns `ARROW2_RANGE` exactly where `table` is above 3 or the bits are not inside their bytes, else `ARROW2_LENGTH`
+/// exactly where the number of bytes of `out` is not the one that `length` bits need.
 #[unsafe(no_mangle)]
 pub extern "C" fn arrow2_unary_table(
     bytes: &[u8],
@@ -38,10 +41,11 @@ pub extern "C" fn arrow2_unary_table(
     ARROW2_OK
 }
 
-/// Writes to `out` the output of `table`, of two inputs, for the `length` bits of each input from its offset on.
+/// Writes to `out` the outputs of `table`, a truth table of two inputs, for the `length` bits of each input from its
+/// offset on, index by index.
 ///
 /// Returns `ARROW2_RANGE` exactly where `table` is above 15 or the bits of an input are not inside its bytes, else
-/// `ARROW2_LENGTH` exactly where `out` does not have exactly the bytes that hold `length` bits.
+/// `ARROW2_LENGTH` exactly where the number of bytes of `out` is not the one that `length` bits need.
 #[unsafe(no_mangle)]
 pub extern "C" fn arrow2_binary_table(
     first: &[u8],
@@ -69,10 +73,11 @@ pub extern "C" fn arrow2_binary_table(
     ARROW2_OK
 }
 
-/// Writes to `out` the output of `table`, of three inputs, for the `length` bits of each input from its offset on.
+/// Writes to `out` the outputs of `table`, a truth table of three inputs, for the `length` bits of each input from its
+/// offset on, index by index.
 ///
 /// Returns `ARROW2_RANGE` exactly where `table` is above 255 or the bits of an input are not inside its bytes, else
-/// `ARROW2_LENGTH` exactly where `out` does not have exactly the bytes that hold `length` bits.
+/// `ARROW2_LENGTH` exactly where the number of bytes of `out` is not the one that `length` bits need.
 #[unsafe(no_mangle)]
 pub extern "C" fn arrow2_ternary_table(
     first: &[u8],
@@ -104,10 +109,11 @@ pub extern "C" fn arrow2_ternary_table(
     ARROW2_OK
 }
 
-/// Writes to `out` the output of `table`, of four inputs, for the `length` bits of each input from its offset on.
+/// Writes to `out` the outputs of `table`, a truth table of four inputs, for the `length` bits of each input from its
+/// offset on, index by index.
 ///
 /// Returns `ARROW2_RANGE` exactly where the bits of an input are not inside its bytes, else `ARROW2_LENGTH` exactly
-/// where `out` does not have exactly the bytes that hold `length` bits.
+/// where the number of bytes of `out` is not the one that `length` bits need.
 #[unsafe(no_mangle)]
 pub extern "C" fn arrow2_quaternary_table(
     first: &[u8],

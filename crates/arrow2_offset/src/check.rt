@@ -7,15 +7,16 @@ use arrow2_index::Offset;
 use arrow2_types::{Error, Result};
 use std::alloc::{AllocError, Global};
 
-/// The first rule of offsets that a list breaks. The rules are tested in the order of the variants. Each variant is
-/// named after the fault of a list that breaks its rule.
+/// The first rule of offsets that a list breaks. The rules are tested in the order of the variants. A variant has the
+/// name of the fault, not of the rule.
 #[derive(Clone, Copy, Debug, PartialEq, Eq)]
 pub enum BrokenRule {
-    /// There is no offset at all.
+    /// There is no offset at all. `OutOfSpec` reports it as `offsets must have at least one element`.
     Empty,
-    /// The first offset is negative.
+    /// The first offset is negative. `OutOfSpec` reports it as `offsets must be larger than 0`, although 0 is allowed.
     Negative,
-    /// An offset is below the one before it.
+    /// An offset is below the one before it. `OutOfSpec` reports it as `offsets must be monotonically increasing`,
+    /// although equal neighbours are allowed.
     Falling,
 }
 

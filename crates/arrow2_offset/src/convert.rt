@@ -10,7 +10,8 @@ use crate::widths::write_narrow;
 use arrow2_types::{Error, Result};
 use std::alloc::{AllocError, Global};
 
-/// Returns a copy of the same offsets, in 64 bits each. The last one is at most 2147483647, since it had 32 bits.
+/// Returns a copy of the same offsets, in 64 bits each. The last one is at most 2147483647, since it had 32 bits. No
+/// clause states the capacity of the copy.
 ///
 /// Stands for arrow2's `From`.
 ///
@@ -30,7 +31,7 @@ impl TryFrom<Offsets<i32>> for Offsets<i64> {
     }
 }
 
-/// Returns a copy of the same offsets, in 32 bits each.
+/// Returns a copy of the same offsets, in 32 bits each. No clause states the capacity of the copy.
 ///
 /// # Errors
 ///

@@ -73,8 +73,9 @@ impl<O: Offset> OffsetsBuffer<O> {
     /// Returns `Right` of offsets that grow, with the same list, or `Left` of the offsets as they were. It is proved
     /// that `Right` comes only if nothing is sliced off.
     ///
-    /// In the code, `Right` comes exactly if nothing is sliced off and nobody shares the storage, and the call does not
-    /// allocate. No clause states this, nor the capacity of `Right`.
+    /// In the code, `Right` comes exactly if nothing is sliced off and nobody shares the storage; and the call never
+    /// allocates, whichever side it returns. Of these statements, clauses have only what is proved above. No clause
+    /// states the capacity of `Right`.
     ///
     /// Differs from arrow2, which returns the whole storage, also where the offsets are sliced.
     pub fn into_mut(self) -> Either<Self, Offsets<O>>
@@ -293,10 +294,10 @@ impl<O: Offset> TryFrom<Buffer<O>> for OffsetsBuffer<O> {
 ///
 /// # Errors
 ///
-/// Where the items are not offsets, `OutOfSpec` or `OutOfMemory`. The text of `OutOfSpec` names the first rule of
-/// [`BrokenRule`](crate::BrokenRule) that they break. The code then returns `OutOfMemory` only if this text cannot be
-/// allocated; no clause states that. Where the items are offsets, `OutOfMemory` is the only error. After an error the
-/// vector is dropped.
+/// Where the items are not offsets: `OutOfSpec` with the text of the first rule of [`BrokenRule`](crate::BrokenRule)
+/// that they break, or `OutOfMemory`. Where they are offsets: only `OutOfMemory`. In the code `OutOfMemory` comes only
+/// if that text, or the `Rc` of the storage, cannot be allocated; no clause states that. After an error the vector is
+/// dropped.
 impl<O: Offset> TryFrom<Vec<O>> for OffsetsBuffer<O> {
     type Error = Error;
 

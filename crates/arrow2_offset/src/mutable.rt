@@ -115,12 +115,12 @@ impl<O: Offset> Offsets<O> {
 
     /// Returns offsets that start at 0, with the lengths that an iterator yields. Requires that the iterator ends, and
     /// that its `next` may be called a first time. (By std's contract of `next`, it may then be called again after each
-    /// item.) Does not read its size hint.
+    /// item.) The size hint is not read.
     ///
     /// # Errors
     ///
     /// `Overflow` or `OutOfMemory`. `Overflow` is possible only if the iterator may yield lengths whose sum passes
-    /// `O::MAX`.
+    /// `O::MAX`. After either error, the iterator and the lengths so far are dropped.
     pub fn try_from_iter<I: IntoIterator<Item = usize>>(alloc: Global, iter: I) -> Result<Self>
         requires { IsFiniteIterable I.into_iter_gives I.IntoIter.can_next I.IntoIter.remaining iter }
         // `it` is an iterator that `iter` may turn into, and `p` a run of it: calls of `next` up to the first `None`.
@@ -143,7 +143,7 @@ impl<O: Offset> Offsets<O> {
     /// # Errors
     ///
     /// `Overflow` or `OutOfMemory`. `Overflow` is possible only if the iterator may yield lengths whose sum passes
-    /// `O::MAX`.
+    /// `O::MAX`. After either error, the iterator and the lengths so far are dropped.
     pub fn try_from_lengths<I: Iterator<Item = usize> + Drop>(
         alloc: Global,
         lengths: I,
@@ -177,9 +177,9 @@ impl<O: Offset> Offsets<O> {
     ///
     /// # Errors
     ///
-    /// Only `OutOfMemory`, and only where the number of slots plus `additional` passes the capacity. It also comes
-    /// where a `usize` cannot count the offsets. After an error, the offsets are as they were. The capacity never
-    /// falls.
+    /// Only `OutOfMemory`, and only where the number of slots plus `additional` passes the capacity. There is no
+    /// `Overflow`: where a `usize` cannot count the offsets, the error is `OutOfMemory` too. After an error, the
+    /// offsets are as they were. The capacity never falls.
     pub fn reserve(&mut self, additional: usize) -> Result<()>
         // The offsets stay. After `Ok`, `additional` more lengths fit.
         ensures items { SameOffsets self.old self.new }
@@ -281,9 +281,10 @@ impl<O: Offset> Offsets<O> {
     }
 
     /// Appends `len` lengths of other offsets, those of the slots from slot `start` on. Requires that `len` is 0, or
-    /// that `start + len` is at most `other.len_proxy()`: both count slots. Within the capacity it does not allocate.
+    /// that `start + len` is at most `other.len_proxy()`. Both `start` and `len` count slots. Within the capacity it
+    /// does not allocate.
     ///
-    /// Differs from arrow2, which tests the other's last offset instead of the sum of the lengths.
+    /// Differs from arrow2, which tests the last offset of these slots instead of the sum of their lengths.
     ///
     /// # Errors
     ///

@@ -1,4 +1,4 @@
-//! Numbers of 32 bits written as numbers of 64 bits, and back. Does not allocate.
+//! Numbers of 32 bits written as numbers of 64 bits, and back. Neither function allocates.
 //!
 //! arrow2 has these loops only inside its conversions.
 ghost use Rattle.std.specs.Prelude.{◌≡◌, length};
@@ -14,8 +14,8 @@ pub fn write_wide(numbers: &[i32], out: &mut [i64])
     }
 }
 
-/// Writes the offsets to `out`, in 32 bits each. Requires slices of equal length, and that no offset is above
-/// `i32::MAX`.
+/// Writes the offsets to `out`, in 32 bits each. Requires slices of equal length, that the numbers are offsets (so at
+/// least one), and that the last one is at most `i32::MAX`.
 pub fn write_narrow(offsets: &[i64], out: &mut [i32])
     requires same_length { length out.old ≡ length offsets.now }
     requires fits { AreOffsetsUpTo 2147483647 offsets.now }

@@ -92,7 +92,7 @@ pub(crate) fn sums<O: Offset>(start: usize, lengths: &[usize], offsets: &mut [O]
     ARROW2_OK
 }
 
-/// Sets `out[i]` to `offsets[from + i] - offsets[from]`, for each item `i` of `out`.
+/// Sets `out[i]` to `offsets[from + i] - offsets[from]`, for each index `i` of `out`.
 ///
 /// Returns the code of `check` where the numbers are not offsets, else `ARROW2_LENGTH` exactly where `out` has no item,
 /// else `ARROW2_RANGE` exactly where `from` plus the number of items of `out` is above that of `offsets`. Writes
@@ -107,7 +107,7 @@ pub(crate) fn rebase<O: Offset>(offsets: &[O], from: usize, out: &mut [O]) -> u3
     }
 }
 
-/// Sets `out[i]` to `offsets[from + i] - offsets[from]`, for each item `i` of `out`, and tests no offset. Requires that
+/// Sets `out[i]` to `offsets[from + i] - offsets[from]`, for each index `i` of `out`, and tests no offset. Requires that
 /// the numbers are offsets.
 ///
 /// Returns `ARROW2_LENGTH` exactly where `out` has no item, else `ARROW2_RANGE` exactly where `from` plus the number of
