@@ -362,6 +362,7 @@ function validities(v, m) {
     alist(11)
     aslice(9, int(length(held[9]) / 3), int(length(held[9]) / 2))
     alist(9)
+    anulls(9)
 }
 
 # Makes an array without validity. Slot 10 holds one with a validity.

@@ -1,7 +1,7 @@
 -- The number of bytes that slices and cuts read.
-use Rattle.std.proofs.Common.{◌≡◌, ◌+◌, ◌%◌, ℕ, length, refl, ap, sym, ◌∙◌, arith}
+use Rattle.std.proofs.Common.{◌≡◌, ◌+◌, ◌-◌, ◌*◌, ◌%◌, ◌≤◌, ℕ, length, refl, ap, sym, ◌∙◌, arith}
 use Rattle.arrow2_model.specs.Storage.{BitmapStorage, items_of}
-use Rattle.arrow2_model.specs.Touched.{touched, slice_reads, cut_reads}
+use Rattle.arrow2_model.specs.Touched.{touched, slice_reads, cut_reads, lg, halvings}
 use Rattle.arrow2_model.proofs.Touched.{cut_reads-in_byte}
 use Rattle.arrow2_walks.specs.Cuts.{Piece, piece_of}
 
@@ -64,6 +64,14 @@ second_cut = refl
 pub third_cut : cut_reads 0 800 1 ≡ 2
 unfolding cut_reads slice_reads touched
 third_cut = refl
+
+-- the greatest number of reads that the bound of three cuts of 1600 items allows
+pub lg-1600 : lg 1600 ≡ 10
+unfolding lg halvings
+lg-1600 = refl
+
+pub most_reads : (n k r : ℕ) → n ≡ 1600 → k ≡ 4 → 8 * r ≤ 2 * (n * lg n) + 30 * (k - 1) → r ≤ 4011
+most_reads n k r size four bound = let b = rw lg-1600 at (rw size at bound) in omega (arith, b)
 
 -- a cut of a piece that begins with a byte
 pub cut_from_byte : (q : Piece) (b : BitmapStorage) (w n i r s : ℕ) → piece_of b ≡ q → w ≡ b.offset % 8 → w ≡ 0 → n ≡ length (items_of b) → s ≡ r + cut_reads q.offset (length q.items) i → s ≡ r + cut_reads 0 n i

@@ -33,6 +33,11 @@ fn is_equal<T: PartialEq>(rt: &impl Abort, value: &T, wanted: &T) {
     assert_that(rt, *value == *wanted);
 }
 
+/// Two values differ.
+fn differs<T: PartialEq + Drop>(rt: &impl Abort, value: &T, other: T) {
+    assert_that(rt, *value != other);
+}
+
 /// A copy of the value is equal to it.
 fn is_copied<T: PartialEq + Clone + Drop>(rt: &impl Abort, value: &T) {
     let copy = ok(rt, value.clone());
@@ -151,6 +156,25 @@ fn a_copy_of_a_field_is_equal_and_hashes_alike(rt: HostRuntime) {
     is_copied(&rt, &list);
     let copy = ok(&rt, list.clone());
     has(&rt, &[hash(&copy)], &[hash(&list)]);
+}
+
+#[test]
+fn values_of_other_parts_differ(rt: HostRuntime) {
+    let alloc = rt.alloc();
+    differs(&rt, &DataType::Int8, DataType::UInt8);
+    differs(&rt, &DataType::Decimal(3, 2), DataType::Decimal(3, 1));
+    let one = field(&rt, alloc, "a");
+    differs(&rt, &one, field(&rt, alloc, "b"));
+    let nullable = Field::new(alloc, text(&rt, alloc, "a"), DataType::UInt8, true);
+    differs(&rt, &one, nullable);
+    let annotated = field(&rt, alloc, "a").with_metadata(metadata_of(&rt, alloc, "k", "v"));
+    differs(&rt, &one, annotated);
+    let schema = three_fields(&rt, alloc);
+    let even = three_fields(&rt, alloc).filter(|index, _| index % 2 == 0);
+    differs(&rt, &schema, even);
+    let list = DataType::List(ok(&rt, Box::new(alloc, one)));
+    let other = ok(&rt, Box::new(alloc, field(&rt, alloc, "b")));
+    differs(&rt, &list, DataType::List(other));
 }
 
 /// A value that ends here prints as the text where it is debugged.

@@ -9,7 +9,7 @@ use arrow2_array::BooleanArray;
 use arrow2_bitmap::assign_ops::{binary_assign, unary_assign};
 use arrow2_bitmap::bitmap_ops::{binary, unary};
 use arrow2_bitmap::{Bitmap, MutableBitmap};
-use arrow2_bits::BitChunkIterExact;
+use arrow2_bits::{BitChunkIterExact, Reads, Stored, count_zeros, count_zeros_counted};
 use arrow2_chunk::BitChunk;
 use arrow2_tables::bitmap_ops::{quaternary, ternary};
 use arrow2_types::Result;
@@ -74,6 +74,20 @@ fn is_counted_from(rt: &impl Abort, (bitmap, list): Of, start: usize) {
         assert_that(rt, bitmap.null_count_range(start, len) == falses);
         falses = falses.wrapping_add(usize::from(!lists::at(list, start + len)));
     }
+}
+
+/// Counts the false items of a list that these bytes hold from bit `offset` on, and one more byte after it.
+fn is_counted_at(rt: &impl Abort, bytes: &[u8], offset: usize, list: &[bool])
+    requires { offset < 16 }
+{
+    assert!(rt; (offset + list.len()) / 8 < bytes.len());
+    let falses = count_zeros(bytes, offset, list.len());
+    assert_that(rt, lists::trues(list).wrapping_add(falses) == list.len());
+    let mut stored = Stored::new(bytes, Reads::new());
+    assert_that(
+        rt,
+        count_zeros_counted(&mut stored, offset, list.len()) == falses,
+    );
 }
 
 /// Reads the items after the words of each width.
@@ -366,6 +380,8 @@ fn at_each_offset(rt: &impl Abort, alloc: Global, len: usize) {
         is_appended_as_booleans(rt, alloc, list);
     }
     for offset in 0..16 {
+        let bytes = ok(rt, lists::bytes_with_list(alloc, list, offset, true, 1));
+        is_counted_at(rt, bytes.as_slice(), offset, list);
         let left = bitmap_at(rt, alloc, list, offset, true, 1);
         let alike = bitmap_at(rt, alloc, others, offset, true, 0);
         pairs_agree(rt, (&left, list), (&alike, others));
