@@ -1,5 +1,5 @@
 # Prints each public call whose clauses or documentation name `OutOfMemory`: `Type::call`, `call` outside a type, or
-# the head of an `impl` of a trait. The documentation of a call that never allocates says "Does not allocate.", with no
+# the head of an `impl` of a trait; also the derived `Clone` of a type that has no parameter and is not `Copy`. The documentation of a call that never allocates says "Does not allocate.", with no
 # condition after it.
 # With `words`, those alone whose documentation has them.
 # Comparisons of byte strings, of texts and of booleans have the names of those of numbers: each is printed after its
@@ -24,6 +24,9 @@ FNR == 1 {
     sub(/<.*/, "", type)
 }
 /^}/ { owner = "" }
+/^#\[derive\(/ { cloned = /Clone/ && !/Copy/ && words == "" }
+cloned && /^pub (struct|enum) [A-Za-z]+ / { print "Clone for " $3 }
+/^pub (struct|enum) / { cloned = 0 }
 /^ *(pub(\(crate\))? )?fn / {
     public = $1 == "pub" || owner ~ / for /
     call = $0

@@ -1,11 +1,12 @@
-//! Every public call of buffers, bitmaps, tables, iterators, offsets, arrays and kernels that may run out of memory,
-//! and every change in place, on few items. `tests/run` lets each allocation fail in turn, and tests that the output
-//! stays the same and that each call that may fail has failed once.
+//! Every public call of `arrow2` that may run out of memory, and every change in place, on few items. `tests/run` lets
+//! each allocation fail in turn, and tests that the output stays the same and that each call that may fail has failed
+//! once.
 #![tactic(auto)]
 
 mod arrays;
 mod bitmaps;
 mod calls;
+mod datatypes;
 mod growing;
 mod items;
 mod kernels;
@@ -22,6 +23,7 @@ use std::process::ExitCode;
 
 /// Makes all calls, group by group.
 fn all<R: Print + Eprint>(rt: &R, alloc: Global) -> Result<()> {
+    datatypes::all(rt, alloc);
     bitmaps::all(rt, alloc)?;
     growing::all(rt, alloc)?;
     walks::all(rt, alloc)?;

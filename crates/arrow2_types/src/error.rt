@@ -53,7 +53,8 @@ impl Error {
         }
     }
 
-    /// Returns the same as [`Error::from_external_error`] for std's error of bytes that are not UTF-8.
+    /// Returns the same as [`Error::from_external_error`], `OutOfMemory` too, for std's error of bytes that are not
+    /// UTF-8.
     pub fn from_utf8_error(alloc: Global, error: Utf8Error) -> Error
         ensures { WrapsText result (λ text.
             IfSome (⟦<Utf8Error as fmt::Display>⟧.output error) (λ printed. text ≡ printed)) }
@@ -61,8 +62,8 @@ impl Error {
         Error::from_external_error::<Utf8Error>(alloc, &error)
     }
 
-    /// Returns the same as [`Error::from_external_error`] for the error of std's `String::from_utf8`. Drops the bytes
-    /// that this error holds.
+    /// Returns the same as [`Error::from_external_error`], `OutOfMemory` too, for the error of std's
+    /// `String::from_utf8`. Drops the bytes that this error holds.
     pub fn from_string_utf8_error(alloc: Global, error: FromUtf8Error) -> Error
         ensures { WrapsText result (λ text.
             IfSome (⟦<FromUtf8Error as fmt::Display>⟧.output error) (λ printed. text ≡ printed)) }
@@ -70,7 +71,8 @@ impl Error {
         Error::from_external_error::<FromUtf8Error>(alloc, &error)
     }
 
-    /// Returns the same as [`Error::from_external_error`] for the error of simdutf8's UTF-8 validation.
+    /// Returns the same as [`Error::from_external_error`], `OutOfMemory` too, for the error of simdutf8's UTF-8
+    /// validation.
     pub fn from_basic_utf8_error(alloc: Global, error: simdutf8::basic::Utf8Error) -> Error
         ensures { WrapsText result (λ text. text ≡ codes "invalid utf-8 sequence") }
     {
