@@ -23,8 +23,8 @@ use std::ops::{BitAnd, BitOr, BitXor, Not};
 /// Reads lists of `len` booleans each as words of 64 bits, the last word of each list padded with false, applies `op`
 /// to each row of words, and returns a bitmap of the first `len` bits of the results. The first item of a word is its
 /// lowest bit. A row is the words of all lists at one index; `rows` is, for example,
-/// `OneList { chunks: bitmap.chunks() }` of `arrow2_kernels`. Requires that all lists have `len` items, and that the
-/// `requires` of `op` holds for any words, not only for those of these lists.
+/// `OneList { chunks: bitmap.chunks() }` of `arrow2_kernels`. Requires that each list has `len` items still to come,
+/// and that the `requires` of `op` holds for any words, not only for those of these lists.
 ///
 /// For any `op` the clauses state that the items are the bits of result words, and that each result word is one that
 /// the contract of `op` allows for the input words at its index. If the contract of `op` determines each result word
@@ -48,8 +48,8 @@ pub fn from_rows<S: WordRows<u64>, F: Fn(S::Row) -> u64>(
     requires same_lengths { S.same_lengths rows }
     requires len { S.len rows ≡ len }
     // If `op` computes a mathematical function `f`, that is, returns the 64 lowest bits of what `f` gives for the list
-    // of the row's words: the items are the bits of the results of `f`, row after row, cut to `len`. The number of a
-    // `u64` is the `u64` itself: `λ x. x`.
+    // of the row's words: the items are the 64 lowest bits of the results of `f`, row after row, cut to `len`. The
+    // number of a `u64` is the `u64` itself: `λ x. x`.
     ensures items { (f : List ℕ → ℕ) → ComputesRows 64 S.words (λ x. x) (F.post op) f →
         IfOk result (λ b. items_of b ≡ bits_of_words 64 (λ j. f (S.row_at rows j)) len) }
     // If, besides, the rows are the words of some `lists` of booleans, the first of which has `len` items: the items

@@ -11,7 +11,7 @@ use crate::codes::{ARROW2_LENGTH, ARROW2_OK, ARROW2_RANGE};
 use crate::in_place::{assign_four, assign_three, assign_two};
 use arrow2_kernels::simd_assign::assign_unary;
 
-/// Replaces the first `length` bits of `bytes` by the outputs of a table of one input.
+/// Replaces each of the first `length` bits of `bytes` by the output of a table of one input: this bit.
 ///
 /// Returns `ARROW2_RANGE` exactly where `table` is above 3, else `ARROW2_LENGTH` exactly where the number of bytes of
 /// `bytes` is not the one that `length` bits need.

@@ -11,13 +11,14 @@ use arrow2_walks::{BitCursor, find_bit};
 
 /// Finds the runs of set bits among the `length` bits from bit `offset` on. Index 0 is bit `offset`.
 ///
-/// The search begins at index `at`. If `at` is inside a run, finds only the part from `at` on. Writes to `starts` the
-/// index at which each run begins, and to `lengths` its length in bits, until the slices are full or no run is left.
-/// Writes to `count` how many runs these are, and to `at` the index from which the next call goes on. `at` never falls.
+/// The search begins at index `at`. If `at` is inside a run, finds only the part from `at` on. Writes the runs in
+/// rising order, until the slices are full or no run is left: to `starts` the index at which each run begins, and to
+/// `lengths` its length in bits. Writes to `count` how many runs these are, and to `at` the index from which the next
+/// call goes on. `at` never falls.
 ///
 /// If `count` is below the length of the slices, no run is left, and `at` is `length`. If the slices are full, runs may
-/// be left. The exact value of `at` is then not specified: it is at least the first index plus the length of the last
-/// run written, and at most the start of the next run, or at most `length` if there is none.
+/// be left. The exact value of `at` is then not specified: it is at least the index just after the last run written,
+/// and at most the start of the next run, or at most `length` if there is none.
 ///
 /// To find all runs, call again until `count` is below the length of the slices. With slices of length 0 this never
 /// happens: `count` is always 0, and `at` may stay as it was. What the slices hold from `count` on is not specified.

@@ -316,7 +316,7 @@ impl<O: Offset> TryFrom<Vec<O>> for OffsetsBuffer<O> {
 ///
 /// # Errors
 ///
-/// Only `OutOfMemory`. In the code it comes only where the allocation of the reference count fails; no clause states
+/// Only `OutOfMemory`. In the code it comes only where the `Rc` of the storage cannot be allocated; no clause states
 /// that. After an error the offsets are dropped.
 impl<O: Offset> TryFrom<Offsets<O>> for OffsetsBuffer<O> {
     type Error = Error;

@@ -120,7 +120,8 @@ impl<O: Offset> Offsets<O> {
     /// # Errors
     ///
     /// `Overflow` or `OutOfMemory`. `Overflow` is possible only if the iterator may yield lengths whose sum passes
-    /// `O::MAX`. After either error, the iterator and the lengths so far are dropped.
+    /// `O::MAX`. Where this sum passes it, one of the two comes. After either error, the iterator and the lengths so
+    /// far are dropped.
     pub fn try_from_iter<I: IntoIterator<Item = usize>>(alloc: Global, iter: I) -> Result<Self>
         requires { IsFiniteIterable I.into_iter_gives I.IntoIter.can_next I.IntoIter.remaining iter }
         // `it` is an iterator that `iter` may turn into, and `p` a run of it: calls of `next` up to the first `None`.
@@ -143,7 +144,8 @@ impl<O: Offset> Offsets<O> {
     /// # Errors
     ///
     /// `Overflow` or `OutOfMemory`. `Overflow` is possible only if the iterator may yield lengths whose sum passes
-    /// `O::MAX`. After either error, the iterator and the lengths so far are dropped.
+    /// `O::MAX`. Where this sum passes it, one of the two comes. After either error, the iterator and the lengths so
+    /// far are dropped.
     pub fn try_from_lengths<I: Iterator<Item = usize> + Drop>(
         alloc: Global,
         lengths: I,
