@@ -1,7 +1,7 @@
 # Prints each public call whose clauses or documentation name `OutOfMemory`: `Type::call`, `call` outside a type, or
-# the head of an `impl` of a trait; also the derived `Clone` of a type that has no parameter and is not `Copy`. The documentation of a call that never allocates says "Does not allocate.", with no
-# condition after it.
-# With `words`, those alone whose documentation has them.
+# the head of an `impl` of a trait. The documentation of a call that never allocates says "Does not allocate.", with no
+# condition after it. Prints the derived `Clone` of a type that has no parameter and is not `Copy` too.
+# With `words`, the calls alone whose documentation has them.
 # Comparisons of byte strings, of texts and of booleans have the names of those of numbers: each is printed after its
 # module, as `binary::eq`.
 FNR == 1 {
