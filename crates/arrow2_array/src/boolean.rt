@@ -97,8 +97,7 @@ impl BooleanArray {
     }
 
     /// Returns the array of these values. An item is null where the validity is false; without a validity, no item is
-    /// null. Requires that the validity, if there is one, has the length of the values; arrow2 panics if it does not.
-    /// Does not allocate.
+    /// null. Requires that the validity, if there is one, has the length of the values. Does not allocate.
     pub fn new(values: Bitmap, validity: Option<Bitmap>) -> BooleanArray
         requires same_length { ForSome validity (λ v. length (items_of v) ≡ length (items_of values)) }
         ensures value { result ≡ record {
@@ -160,8 +159,7 @@ impl BooleanArray {
         self.len() == 0
     }
 
-    /// Returns item `index`, or `None` where it is null. Requires that `index` is below the length; arrow2 panics if it
-    /// is not.
+    /// Returns item `index`, or `None` where it is null. Requires that `index` is below the length.
     pub fn get(&self, index: usize) -> Option<bool>
         requires below { index < length (boolean_items self.now) }
         ensures { result ≡ slice_index_or (boolean_items self.now) index None }
@@ -170,8 +168,7 @@ impl BooleanArray {
         self.validity.is_valid(index).then_some(value)
     }
 
-    /// Returns the value at `index`, also under a null. Requires that `index` is below the length; arrow2 panics if it
-    /// is not.
+    /// Returns the value at `index`, also under a null. Requires that `index` is below the length.
     pub fn value(&self, index: usize) -> bool
         requires below { index < length (boolean_items self.now) }
         ensures { slice_get (items_of self.now.values) index ≡ Some result }
@@ -195,7 +192,7 @@ impl BooleanArray {
         !self.is_valid(index)
     }
 
-    /// Returns the values, with those under nulls as they are stored.
+    /// Returns the stored values, those under nulls too.
     pub fn values(&self) -> &Bitmap
         ensures value { result.now ≡ self.now.values }
         ensures items { zipped (items_of result.now) (map is_some (boolean_items self.now))
@@ -258,7 +255,7 @@ impl BooleanArray {
     }
 
     /// Returns the array of the same values with another validity. Requires that the validity, if there is one, has the
-    /// length of the values; arrow2 panics if it does not. Does not allocate.
+    /// length of the values. Does not allocate.
     pub fn with_validity(self, validity: Option<Bitmap>) -> BooleanArray
         requires same_length { ForSome validity (λ v.
             length (items_of v) ≡ length (items_of self.values)) }

@@ -20,10 +20,10 @@ use std::marker::Model;
 
 /// An array of booleans that grows.
 ///
-/// Contracts see its items and its capacity. A call that appends has one clause, the record `AppendsBooleans` of
-/// `specs/Growth.antt`. It states the items after `Ok` and after an error. It states exactly when `Overflow` comes, and
-/// that the only other error is `OutOfMemory`. It states that the call succeeds within the capacity, and that the
-/// capacity never falls.
+/// Contracts see its items and its capacity, which is the number of items that fit before it allocates. Each call that
+/// appends has one clause, the record `AppendsBooleans` of `specs/Growth.antt`. The record states what the items are
+/// after `Ok` and after an error, in exactly which cases `Overflow` comes, that `OutOfMemory` is the only other error,
+/// and that the call succeeds within the capacity. It also states that the capacity never falls.
 ///
 /// Differs from arrow2: the validity is always stored, and [`MutableBooleanArray::freeze`] leaves it out where no item
 /// is null. Before `freeze`, only [`MutableBooleanArray::pop`] returns an item, and no call sets one.
@@ -61,7 +61,7 @@ impl MutableBooleanArray {
         }
     }
 
-    /// Returns an array without items, with capacity for `capacity` items.
+    /// Returns an array without items, with capacity for at least `capacity` items.
     ///
     /// # Errors
     ///
@@ -79,14 +79,15 @@ impl MutableBooleanArray {
     }
 
     /// Returns an array of the items of an iterator, in their order. Requires that the iterator ends, and that its
-    /// `next` may be called until then. Does not read its size hint.
+    /// `next` may be called a first time. (By std's contract of `next`, it may then be called again after each item.)
+    /// Does not read the size hint.
     ///
     /// Stands for arrow2's `FromIterator`.
     ///
     /// # Errors
     ///
     /// `Overflow` or `OutOfMemory`. `Overflow` comes only if the contract of the iterator allows more than `usize::MAX`
-    /// items.
+    /// items. After either error, the iterator and the items so far are dropped.
     pub fn try_from_iter<I: IntoIterator<Item = Option<bool>>>(
         alloc: Global,
         iter: I,
@@ -137,7 +138,7 @@ impl MutableBooleanArray {
         self.len() == 0
     }
 
-    /// Returns the capacity in items, including those that it holds.
+    /// Returns the number of items that fit before it allocates, including the items that it holds.
     pub fn capacity(&self) -> usize
         ensures value { result ≡ self.now.capacity }
         ensures within_capacity { length self.now.items ≤ result }
@@ -145,7 +146,7 @@ impl MutableBooleanArray {
         self.values.capacity().min(self.validity.capacity())
     }
 
-    /// Reserves capacity for `additional` more items. Does not allocate if the spare capacity is enough for them.
+    /// Reserves capacity for `additional` more items. Within the capacity it does not allocate.
     ///
     /// # Errors
     ///
@@ -195,7 +196,8 @@ impl MutableBooleanArray {
         self.push(None)
     }
 
-    /// Appends values that are not null. Within the capacity it does not allocate, else it allocates before it writes.
+    /// Appends each of these values as an item that is not null. Within the capacity it does not allocate, else it
+    /// allocates before it writes.
     ///
     /// Stands for arrow2's `extend_trusted_len_values`, which takes an iterator.
     ///
@@ -241,7 +243,7 @@ impl MutableBooleanArray {
         self.values.push(item.unwrap_or(false)).unwrap();
     }
 
-    /// Appends `item` `additional` times. Within the capacity it does not allocate.
+    /// Appends `item` `additional` times. Within the capacity it does not allocate, else it allocates before it writes.
     ///
     /// # Errors
     ///
@@ -257,8 +259,10 @@ impl MutableBooleanArray {
         Ok(())
     }
 
-    /// Appends the `len` items of another array from item `start` on. Requires that `start + len` is at most the other
-    /// array's length. Within the capacity it does not allocate. In arrow2 it is `GrowableBoolean::extend`.
+    /// Appends the `len` items of `array` from item `start` on. Requires that `start + len` is at most the length of
+    /// `array`. Within the capacity it does not allocate, else it allocates before it writes.
+    ///
+    /// In arrow2 this call is `GrowableBoolean::extend`.
     ///
     /// # Errors
     ///
@@ -281,9 +285,9 @@ impl MutableBooleanArray {
         Ok(())
     }
 
-    /// Removes the last item and returns it, or returns `None` where there is none.
+    /// Removes the last item and returns it: `Some(None)` for a null, and `None` where there is no item.
     ///
-    /// Differs from arrow2, which returns `None` both for a null and for an array without items.
+    /// Differs from arrow2, which returns `None` in both cases.
     pub fn pop(&mut self) -> Option<Option<bool>>
         ensures last { MatchOption result (self.old.items ≡ []) (λ item.
             self.old.items ≡ self.new.items ++ item ∷ []) }
@@ -295,9 +299,10 @@ impl MutableBooleanArray {
         Some(valid.then_some(value))
     }
 
-    /// Frees all capacity where there is no item. Else frees unused capacity if the allocator can; no clause states
-    /// that any is freed. The clauses are on [`MutableBooleanArray::capacity`], the lesser of the capacities for values
-    /// and for validity: none states that both fall to 0. Always returns `Ok`. arrow2 returns no `Result`.
+    /// Keeps the items. Frees all capacity where there is no item. Else frees unused capacity if the allocator can; no
+    /// clause states that any is freed. The clauses are on [`MutableBooleanArray::capacity`], the lesser of the
+    /// capacities for values and for validity: none states that both fall to 0. Always returns `Ok`. arrow2 returns no
+    /// `Result`.
     pub fn shrink_to_fit(&mut self) -> Result<()>
         ensures ok { IsOk result }
         ensures items { self.new.items ≡ self.old.items }

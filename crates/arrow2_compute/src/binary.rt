@@ -100,8 +100,8 @@ pub trait Binary: Nullable + Drop {
     fn push_null(grown: &mut Self::Growing) -> Result<()>
         ensures { AppendsItem GREATEST result (growing grown.old) (growing grown.new) None };
 
-    /// Appends the `len` items of `array` from item `start` on. Copies the bytes under nulls too; contracts state
-    /// only their number. Requires that `start + len` is at most the length of `array`.
+    /// Appends the `len` items of `array` from item `start` on. Copies the bytes under nulls too; contracts state only
+    /// their number. Requires that `start + len` is at most the length of `array`.
     ///
     /// # Errors
     ///

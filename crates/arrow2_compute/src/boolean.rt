@@ -90,7 +90,7 @@ impl<O: Offset> Nullable for Utf8Array<O> {
     }
 }
 
-/// Returns, item by item, whether the item is null. The result has no nulls.
+/// Returns, item by item, whether the item is null. The result has no validity bitmap.
 ///
 /// Differs from arrow2, which takes a `dyn Array`.
 ///
@@ -106,8 +106,8 @@ pub fn is_null<A: Nullable>(array: &A) -> Result<BooleanArray>
     Ok(BooleanArray::new(nulls, None))
 }
 
-/// Returns, item by item, whether the item is not null. The result has no nulls. Where the array has a validity bitmap,
-/// the values of the result are a clone of this bitmap.
+/// Returns, item by item, whether the item is not null. The result has no validity bitmap. If the array has one, the
+/// values of the result are a clone of it.
 ///
 /// Differs from arrow2, which takes a `dyn Array`.
 ///

@@ -45,14 +45,15 @@ pub fn concatenate<T: NativeType>(
 }
 
 /// Returns the byte strings or texts of `first` and then of each of `others`, one after the other, with the logical
-/// type of `first`. The result has a validity bitmap exactly if an item of it is null.
+/// type of `first`. The result has a validity bitmap exactly if an item of it is null. It stores no bytes outside its
+/// slots. Copies the bytes under nulls too; the contract states only their number.
 ///
 /// In arrow2 it is `concatenate`. Here the logical types are not compared.
 ///
 /// # Errors
 ///
-/// It fails with `Overflow` or `OutOfMemory` if all slots together, null slots too, have more bytes than an offset of
-/// the arrays can count, or if a `usize` cannot count the items. Otherwise the only error is `OutOfMemory`.
+/// If all slots together, null slots too, have more bytes than an offset of the arrays can count, or if a `usize`
+/// cannot count the items, it fails with `Overflow` or `OutOfMemory`. Otherwise the only error is `OutOfMemory`.
 #[tactic(auto, using(crate::proofs::KernelLoops::joining))]
 pub fn concatenate_binary<A: Binary>(first: &A, others: &[&A]) -> Result<A>
     // The items of all arrays in turn, the logical type, and how the items are stored.

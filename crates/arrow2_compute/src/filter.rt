@@ -28,7 +28,7 @@ use std::alloc::AllocError;
 use std::convert::TryFrom;
 
 /// Returns the items at whose index the mask is true. The result has the logical type of `array`, and a validity bitmap
-/// exactly if `array` has one. Requires that both have equal lengths.
+/// exactly if `array` has one. Requires that `array` and `mask` have equal lengths.
 ///
 /// Differs from arrow2: the mask is a bitmap, which has no nulls.
 ///
@@ -141,7 +141,8 @@ fn push_bits(kept: &mut MutableBitmap, block: u64, word: u64) -> Result<()>
 }
 
 /// Returns the items at whose index the mask is `Some(true)`: a null of the mask counts as false. The result has the
-/// logical type of `array`, and a validity bitmap exactly if `array` has one. Requires that both have equal lengths.
+/// logical type of `array`, and a validity bitmap exactly if `array` has one. Requires that `array` and `mask` have
+/// equal lengths.
 ///
 /// In arrow2 it is `filter`.
 ///
@@ -174,8 +175,8 @@ fn true_items(mask: &BooleanArray) -> Result<Bitmap>
 }
 
 /// Returns the byte strings or texts at whose index the mask is true. The result has the logical type of `array`, and a
-/// validity bitmap exactly if an item of it is null. It stores no bytes outside its slots. Requires that both have
-/// equal lengths.
+/// validity bitmap exactly if an item of it is null. It stores no bytes outside its slots. Copies the bytes under nulls
+/// too; the contract states only their number. Requires that `array` and `mask` have equal lengths.
 ///
 /// In arrow2 it is `filter`, whose mask is a boolean array.
 ///
@@ -202,7 +203,8 @@ pub fn filter_binary<A: Binary>(array: &A, mask: &Bitmap) -> Result<A>
 
 /// Returns the byte strings or texts at whose index the mask is `Some(true)`: a null of the mask counts as false. The
 /// result has the logical type of `array`, and a validity bitmap exactly if an item of it is null. It stores no bytes
-/// outside its slots. Requires that both have equal lengths.
+/// outside its slots. Copies the bytes under nulls too; the contract states only their number. Requires that `array`
+/// and `mask` have equal lengths.
 ///
 /// In arrow2 it is `filter`.
 ///
@@ -245,7 +247,7 @@ fn selected_slots<A: Binary>(array: &A, mask: &Bitmap) -> Result<A>
 }
 
 /// Returns the booleans at whose index the mask is true. The result has a validity bitmap exactly if `array` has one.
-/// Requires that both have equal lengths.
+/// Requires that `array` and `mask` have equal lengths.
 ///
 /// In arrow2 it is `filter`, whose mask is a boolean array.
 ///
@@ -265,7 +267,7 @@ pub fn filter_boolean(array: &BooleanArray, mask: &Bitmap) -> Result<BooleanArra
 }
 
 /// Returns the booleans at whose index the mask is `Some(true)`: a null of the mask counts as false. The result has a
-/// validity bitmap exactly if `array` has one. Requires that both have equal lengths.
+/// validity bitmap exactly if `array` has one. Requires that `array` and `mask` have equal lengths.
 ///
 /// In arrow2 it is `filter`.
 ///

@@ -1,4 +1,4 @@
-//! Items of one array or of another.
+//! Chooses, index by index, the item of one array or that of another.
 ghost use Rattle.std.specs.Prelude.{◌≡◌, ◌<◌, ◌≤◌, ◌⊎◌, [], None, length, sum_by, if◌then◌else◌, IfOk, IfErr, IsErrOf, OnOk, ◌↔◌, IsNone, Some};
 ghost use Rattle.arrow2_array.specs.Items.{boolean_items};
 ghost use Rattle.arrow2_model.specs.Buffers.{buffer_items};
@@ -69,7 +69,7 @@ fn chosen_values<T: NativeType>(
     Ok(values)
 }
 
-/// Returns the first value where `is_left`, else the second.
+/// Returns `left` if `is_left`, else `right`.
 fn either<T: NativeType>(is_left: bool, left: T, right: T) -> T
     ensures { result ≡ if is_left then left else right }
 {
@@ -121,8 +121,8 @@ fn chosen_bits(mask: &Bitmap, lhs: &Bitmap, rhs: &Bitmap) -> Result<Bitmap>
 }
 
 /// Returns, index by index, the byte string or text of `lhs` where the mask is true, and that of `rhs` elsewhere, with
-/// the logical type of `lhs`. The result has a validity bitmap exactly if an item of it is null. Requires that all
-/// three have equal lengths.
+/// the logical type of `lhs`. The result has a validity bitmap exactly if an item of it is null. It stores no bytes
+/// outside its slots, and its null slots are empty. Requires that all three have equal lengths.
 ///
 /// In arrow2 it is `if_then_else`, whose mask is a boolean array. Here the logical types are not compared.
 ///

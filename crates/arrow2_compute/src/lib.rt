@@ -1,5 +1,6 @@
 //! Functions on whole arrays of any type: those that select, join or choose items, and those that find nulls; and
-//! comparisons, least and greatest items of arrays of byte strings, of texts and of booleans.
+//! comparisons, least and greatest items of arrays of byte strings, of texts and of booleans. Which value a result of
+//! numbers or of booleans stores under a null is not specified, except by `comparison::binary::compare_each`.
 #![tactic(auto)]
 
 pub mod aggregate;

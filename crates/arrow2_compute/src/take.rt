@@ -24,7 +24,7 @@ use std::alloc::AllocError;
 use std::convert::TryFrom;
 
 /// Returns the items at these indices, in the order of the indices. The result has the logical type of `array`, and a
-/// validity bitmap exactly if `array` has one. Requires that each index is below the length.
+/// validity bitmap exactly if `array` has one. Requires that each index is below the length of `array`.
 ///
 /// Differs from arrow2: the indices are a slice of numbers, which has no nulls.
 ///
@@ -99,7 +99,7 @@ fn bits_at(bitmap: &Bitmap, indices: &[usize]) -> Result<Bitmap>
 
 /// Returns, for each index in `indices`, the item at this index, and null where the index is null. The result has the
 /// logical type of `array`, and a validity bitmap exactly if an item of it is null. The number stored under a null
-/// index has no effect on the items. Requires that each index is null, or at least 0 and below the length.
+/// index has no effect on the items. Requires that each index is null, or at least 0 and below the length of `array`.
 ///
 /// In arrow2 it is `take`.
 ///
@@ -179,8 +179,8 @@ fn item_at<T: NativeType, I: Index>(array: &PrimitiveArray<T>, index: Option<I>)
 }
 
 /// Returns the byte strings or texts at these indices, in the order of the indices. The result has the logical type of
-/// `array`, and a validity bitmap exactly if an item of it is null. It stores no bytes outside its slots. Requires that
-/// each index is below the length.
+/// `array`, and a validity bitmap exactly if an item of it is null. It stores no bytes outside its slots, and its null
+/// slots are empty. Requires that each index is below the length of `array`.
 ///
 /// In arrow2 it is `take`, whose indices are an array.
 ///
@@ -214,8 +214,8 @@ pub fn take_binary<A: Binary>(array: &A, indices: &[usize]) -> Result<A>
 
 /// Returns, for each index in `indices`, the byte string or text at this index, and null where the index is null. The
 /// result has the logical type of `array`, and a validity bitmap exactly if an item of it is null. It stores no bytes
-/// outside its slots. The number stored under a null index has no effect on
-/// the items. Requires that each index is null, or at least 0 and below the length.
+/// outside its slots, and its null slots are empty. The number stored under a null index has no effect on the items.
+/// Requires that each index is null, or at least 0 and below the length of `array`.
 ///
 /// In arrow2 it is `take`.
 ///
@@ -268,7 +268,7 @@ fn push_item_or_null<A: Binary, I: Index>(
 }
 
 /// Returns the booleans at these indices, in the order of the indices. The result has a validity bitmap exactly if
-/// `array` has one. Requires that each index is below the length.
+/// `array` has one. Requires that each index is below the length of `array`.
 ///
 /// In arrow2 it is `take`, whose indices are an array.
 ///
@@ -289,7 +289,7 @@ pub fn take_boolean(array: &BooleanArray, indices: &[usize]) -> Result<BooleanAr
 
 /// Returns, for each index in `indices`, the boolean at this index, and null where the index is null. The result has a
 /// validity bitmap exactly if an item of it is null. The number stored under a null index has no effect on the items.
-/// Requires that each index is null, or at least 0 and below the length.
+/// Requires that each index is null, or at least 0 and below the length of `array`.
 ///
 /// In arrow2 it is `take`.
 ///
@@ -323,10 +323,10 @@ fn tested_by_array<I: Index, F: Fn(Option<bool>) -> bool>(
 ) -> Result<Bitmap>
     requires inside { All (IsInBoundsOrNull I.value (length (boolean_items array.now))) (primitive_items indices.now) }
     requires callable { F.IsAlwaysCallable test }
-    ensures items { (outcome : Option Bool → Bool) →
+    ensures items { let items = items_by_index I.value (boolean_items array.now) (primitive_items indices.now) in
+        (outcome : Option Bool → Bool) →
         ((item : Option Bool) (tested : Bool) → F.post test item tested → tested ≡ outcome item) →
-        IfOk result (λ b. items_of b
-        ≡ map outcome (items_by_index I.value (boolean_items array.now) (primitive_items indices.now))) }
+        IfOk result (λ b. items_of b ≡ map outcome items) }
     ensures len { IfOk result (λ b. length (items_of b) ≡ length (primitive_items indices.now)) }
     ensures only { IfErr result (λ e. e ≡ Error.OutOfMemory) }
 {

@@ -15,8 +15,8 @@ use arrow2_chunk::BitChunkOnes;
 use arrow2_primitive::PrimitiveArray;
 use arrow2_types::NativeType;
 
-/// The greatest number of values that [`sum_of_block`] takes. Up to it, the sum of the upper halves fits an `i64`,
-/// and the sum of the lower halves, of 32 bits each, fits a `u64`.
+/// The greatest number of values that [`sum_of_block`] takes. Up to it, the sum of the upper halves fits an `i64`, and
+/// the sum of the lower halves, of 32 bits each, fits a `u64`.
 const BLOCK: usize = 1 << 31;
 
 /// A native type of whole numbers of at most 64 bits. The sum of the values of any slice fits an `i128`.
@@ -30,8 +30,8 @@ pub trait WholeNumber: NativeType {
         ensures low { negsuc (2 ^ 63 - 1) ≤ℤ result }
         ensures high { result ≤ℤ pos (2 ^ 64 - 1) };
 
-    /// Returns the number of values. It is below 2⁶³, since each value takes a byte of memory or more. `sum_of_values`
-    /// calls it in place of `len`, and `sum_of_valid` for its proof alone: both proofs need this bound.
+    /// Returns the number of values. It is below 2⁶³, since a slice has fewer than 2⁶³ bytes, and each value has at
+    /// least one. The proofs of `sum_of_values` and of `sum_of_valid` need this bound.
     fn count(values: &[Self]) -> usize
         ensures value { result ≡ length values.now }
         ensures few { result < 2 ^ 63 };
@@ -135,7 +135,8 @@ impl WholeNumber for u64 {
 
 /// Returns the exact sum of the items that are not null, or 0 where each item is null. Does not allocate.
 ///
-/// Differs from arrow2, whose sum has the type of the items and wraps, and is `None` where each item is null.
+/// Stands for arrow2's `sum_primitive`, whose result has the type of the items, wraps, and is `None` where each item is
+/// null.
 pub fn sum<T: WholeNumber>(array: &PrimitiveArray<T>) -> i128
     ensures { result ≡ sum_of_non_null T.integer (primitive_items array.now) }
 {
@@ -176,7 +177,7 @@ fn sum_of_block<T: WholeNumber>(values: &[T]) -> i128
 
 /// Adds the upper half of `number` to the first of `sums`, and its lower half to the second. Returns both.
 fn with_halves(sums: (i64, u64), number: i128) -> (i64, u64)
-    // The number has 64 bits, with or without a sign, and neither sum is near its end.
+    // The number has 64 bits, with or without a sign, and neither sum is near an end of its range.
     requires low { negsuc (2 ^ 63 - 1) ≤ℤ number }
     requires high { number ≤ℤ pos (2 ^ 64 - 1) }
     requires upper_low { negsuc (2 ^ 62 - 1) ≤ℤ sums.0 }

@@ -1,5 +1,5 @@
-//! Comparisons of items. An item of the result is null where an input item is null. The result has a validity bitmap
-//! exactly where an input has one.
+//! Comparisons of numbers. An item of the result is null where an input item is null. The result has a validity bitmap
+//! exactly if an input has one.
 ghost use Rattle.std.specs.Prelude.{◌≡◌, ◌<◌, [], Bool, length, map, not, option_map, IfOk, IfErr, ℕ, false, slice_index_or, ◌↔◌, IsNone};
 ghost use Rattle.std.specs.Ordering.{partial_lt, partial_le, partial_gt, partial_ge};
 ghost use Rattle.std.specs.Simd.Lanes.{zip2};

@@ -83,12 +83,14 @@ impl<T: NativeType> Model for PrimitiveArray<T> {
 
 #[tactic(auto, using(arrow2_validity::proofs::Slots::arrays))]
 impl<T: NativeType> PrimitiveArray<T> {
-    /// Returns the array of these values, each null where the validity is false. Without a validity none is null.
+    /// Returns the array of these values. An item is null where the validity is false; without a validity, no item is
+    /// null.
     ///
     /// # Errors
     ///
-    /// It fails if one of these holds: with `InvalidArgumentError`, whose message is that of the first that holds, or
-    /// with `OutOfMemory` if the message cannot be allocated.
+    /// If one of these holds, it fails with `InvalidArgumentError`, whose message is that of the first that holds, or
+    /// with `OutOfMemory`. The code returns `OutOfMemory` in these cases only if the message cannot be allocated; no
+    /// clause states that.
     ///
     /// - the validity has another length than the values;
     /// - the physical type of `data_type` is not that of `T`.
@@ -126,9 +128,9 @@ impl<T: NativeType> PrimitiveArray<T> {
         })
     }
 
-    /// Returns the array of these values, each null where the validity is false. Without a validity none is null.
-    /// Requires that the physical type of `data_type` is that of `T`, and that the validity, if there is one, has the
-    /// length of the values. Does not allocate.
+    /// Returns the array of these values. An item is null where the validity is false; without a validity, no item is
+    /// null. Requires that the physical type of `data_type` is that of `T`, and that the validity, if there is one, has
+    /// the length of the values. Does not allocate.
     ///
     /// Differs from arrow2, which takes a `DataType`, and panics where `try_new` fails.
     pub fn new(
@@ -186,7 +188,7 @@ impl<T: NativeType> PrimitiveArray<T> {
     }
 
     /// Returns an array of these items. The logical type is the one that belongs to `T`. The array has a validity
-    /// bitmap exactly if an item is null. The values stored under nulls are not specified.
+    /// bitmap exactly if an item is null. The values under nulls are unspecified.
     ///
     /// Stands for arrow2's `From` of a slice.
     ///
@@ -322,8 +324,8 @@ impl<T: NativeType> PrimitiveArray<T> {
         self.values.iter()
     }
 
-    /// Keeps `len` items from item `offset` on, over the same storage. Requires that `offset + len` is at most the
-    /// length. Does not allocate.
+    /// Keeps only the `len` items from item `offset` on, over the same storage. Requires that `offset + len` is at most
+    /// the length. Does not allocate.
     pub fn slice(&mut self, offset: usize, len: usize)
         requires inside { offset + len ≤ length (primitive_items self.old) }
         ensures items { primitive_items self.new ≡ part (primitive_items self.old) offset len }

@@ -1,4 +1,4 @@
-//! Arrays of numbers, as iterators read them.
+//! Primitive arrays, as iterators read them.
 ghost use Rattle.std.specs.Prelude.{None, Some, refl};
 ghost use Rattle.arrow2_model.specs.Buffers.{buffer_items};
 ghost use Rattle.arrow2_primitive.specs.Primitive.{primitive_items};
@@ -7,7 +7,7 @@ use crate::array::PrimitiveArray;
 use arrow2_types::NativeType;
 use arrow2_walks::{ArrayAccessor, ArrayIter};
 
-/// The iterator over the items of an array of numbers.
+/// The iterator over the items of a primitive array.
 ///
 /// Differs from arrow2, whose iterator yields references into the values.
 pub type PrimitiveIter<'a, T> = ArrayIter<&'a PrimitiveArray<T>>;

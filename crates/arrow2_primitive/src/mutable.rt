@@ -30,7 +30,8 @@ use std::rc::Rc;
 /// Contracts see its logical type, its items, and its capacity, which is the number of items that fit before it
 /// allocates. Each call that appends has one clause, the record `AppendsItems` of `specs/Growth.antt`. The record
 /// states what the items are after `Ok` and after an error, in exactly which cases `Overflow` comes, that `OutOfMemory`
-/// is the only other error, and that the call succeeds within the capacity.
+/// is the only other error, and that the call succeeds within the capacity. It also states that the logical type stays,
+/// and that the capacity never falls.
 ///
 /// Differs from arrow2: there always is a validity bitmap while the array grows, and [`MutablePrimitiveArray::freeze`]
 /// drops it where no item is null. Before `freeze` the only call that reads an item is [`MutablePrimitiveArray::pop`],
@@ -81,7 +82,7 @@ impl<T: NativeType> Model for MutablePrimitiveArray<T> {
 
 #[tactic(auto, using(crate::proofs::Growing::growing))]
 impl<T: NativeType> MutablePrimitiveArray<T> {
-    /// Returns an array without items. The logical type is the one that belongs to `T`.
+    /// Returns an array without items. Allocates only the logical type, which is the one that belongs to `T`.
     ///
     /// # Errors
     ///
@@ -95,8 +96,8 @@ impl<T: NativeType> MutablePrimitiveArray<T> {
         MutablePrimitiveArray::with_capacity(alloc, 0)
     }
 
-    /// Returns an array without items, with capacity for `capacity` items. The logical type is the one that belongs to
-    /// `T`.
+    /// Returns an array without items, with capacity for at least `capacity` items. The logical type is the one that
+    /// belongs to `T`.
     ///
     /// # Errors
     ///
@@ -145,15 +146,15 @@ impl<T: NativeType> MutablePrimitiveArray<T> {
     }
 
     /// Returns an array of the items of an iterator, in their order. The logical type is the one that belongs to `T`.
-    /// Requires that the iterator ends, and that its `next` may be called until then. Does not
-    /// read its size hint.
+    /// Requires that the iterator ends, and that its `next` may be called a first time. (By std's contract of `next`,
+    /// it may then be called again after each item.) Does not read the size hint.
     ///
     /// Stands for arrow2's `FromIterator`.
     ///
     /// # Errors
     ///
     /// `Overflow` or `OutOfMemory`. `Overflow` comes only if the contract of the iterator allows more than `usize::MAX`
-    /// items.
+    /// items. After either error, the iterator and the items so far are dropped.
     pub fn try_from_iter<I: IntoIterator<Item = Option<T>>>(
         alloc: Global,
         iter: I,
@@ -243,8 +244,8 @@ impl<T: NativeType> MutablePrimitiveArray<T> {
     ///
     /// # Errors
     ///
-    /// `Overflow` exactly where the sum of the length and `additional` passes `usize::MAX`, else only `OutOfMemory`.
-    /// After either error, the array holds the items that it held.
+    /// `Overflow` exactly where the length plus `additional` would pass `usize::MAX`, else only `OutOfMemory`. After
+    /// either error, the array holds the items that it held.
     pub fn reserve(&mut self, additional: usize) -> Result<()>
         // The items and the logical type are as before. After `Ok`, `additional` more items fit the capacity.
         ensures items { self.new.items ≡ self.old.items }
@@ -281,7 +282,7 @@ impl<T: NativeType> MutablePrimitiveArray<T> {
         Ok(())
     }
 
-    /// Appends a null, as [`MutablePrimitiveArray::push`] of `None`. Within the capacity it does not allocate.
+    /// Appends a null, as [`MutablePrimitiveArray::push`] of `None` does. Within the capacity it does not allocate.
     ///
     /// # Errors
     ///
@@ -293,7 +294,8 @@ impl<T: NativeType> MutablePrimitiveArray<T> {
         self.push(None)
     }
 
-    /// Appends values that are not null. Within the capacity it does not allocate.
+    /// Appends each of these values as an item that is not null. Within the capacity it does not allocate, else it
+    /// allocates before it writes.
     ///
     /// # Errors
     ///
@@ -344,7 +346,7 @@ impl<T: NativeType> MutablePrimitiveArray<T> {
     }
 
     /// Appends the `len` items of `array` from item `start` on. Requires that `start + len` is at most the length of
-    /// `array`. Within the capacity it does not allocate.
+    /// `array`. Within the capacity it does not allocate, else it allocates before it writes.
     ///
     /// In arrow2 this call is in `growable`.
     ///
@@ -385,8 +387,10 @@ impl<T: NativeType> MutablePrimitiveArray<T> {
         Some(is_valid.then_some(value))
     }
 
-    /// Frees all capacity where there is no item. Else frees unused capacity if the allocator can; no clause states
-    /// that any is freed. Always returns `Ok`. arrow2 returns no `Result`.
+    /// Keeps the items. Frees all capacity where there is no item. Else frees unused capacity if the allocator can; no
+    /// clause states that any is freed. The clauses are on [`MutablePrimitiveArray::capacity`], the lesser of the
+    /// capacities for values and for validity: none states that both fall to 0. Always returns `Ok`. arrow2 returns no
+    /// `Result`.
     pub fn shrink_to_fit(&mut self) -> Result<()>
         ensures ok { IsOk result }
         ensures items { self.new.items ≡ self.old.items }
@@ -398,9 +402,9 @@ impl<T: NativeType> MutablePrimitiveArray<T> {
         self.validity.shrink_to_fit()
     }
 
-    /// Returns an array of the items. It stores one value for each item, also for a null, and its values are not
-    /// sliced: they are all that their buffer stores. It has a validity bitmap exactly if an item is null. The values
-    /// are moved and not copied, which no clause states.
+    /// Returns an array of the items. It stores one value for each item, and its values are not sliced: they are all
+    /// that their buffer stores. The values under nulls are unspecified. It has a validity bitmap exactly if an item is
+    /// null. The values are moved and not copied, which no clause states.
     ///
     /// Stands for arrow2's `From<MutablePrimitiveArray>`.
     ///

@@ -7,8 +7,8 @@ use arrow2_datatypes::{DataType, IntervalUnit, TimeUnit};
 use std::fmt;
 
 /// Writes the text of a logical type, as the derived `Debug` of `DataType` does. The contract states the text of each
-/// logical type that is stored as native values, except extensions and types with a time zone. The code writes these
-/// by the derived `Debug` of `DataType`, and no contract states what that writes.
+/// logical type that is stored as native values, except extensions and types with a time zone. The code writes these by
+/// the derived `Debug` of `DataType`, and no contract states what that writes.
 pub(crate) fn write_type<W: fmt::Write>(
     data_type: &DataType,
     f: &mut fmt::Formatter<W>,

@@ -1,6 +1,6 @@
 -- The contracts of growth of arrays of byte strings and of texts.
-use Rattle.std.specs.Prelude.{◌≡◌, ℕ, ◌+◌, ◌<◌, ◌≤◌, ◌^◌, ◌↔◌, ◌⊎◌, List, [], ◌∷◌, ◌++◌, Bool, false, Option, None, length, map, sum, slice_index_or, option_map, MatchOption, IfNone, IfSome, Result, OnOk, OnErr, IsOk, IfErr, IfOk, IsErrOf}
-use Rattle.std.specs.Option.{option_copied, option_map_or, unwrap_or}
+use Rattle.std.specs.Prelude.{◌≡◌, ℕ, ◌+◌, ◌*◌, ◌<◌, ◌≤◌, ◌^◌, ◌↔◌, ◌⊎◌, List, [], ◌∷◌, ◌++◌, Bool, false, Option, None, length, map, replicate, sum, slice_index_or, option_map, MatchOption, IfNone, IfSome, Result, OnOk, OnErr, IsOk, IfErr, IfOk, IsErrOf}
+use Rattle.std.specs.Option.{is_some, option_copied, option_map_or, unwrap_or}
 use Rattle.std.specs.Iterator.{Yields}
 use Rattle.std.specs.Borrow.{Bor}
 use Rattle.arrow2_types.specs.declared.error.Error.{Error}
@@ -140,6 +140,14 @@ pub record GrownBySlots (old new : GrowingSlots) (more : List (List ℕ)) (more_
   pub data_type : new.data_type ≡ old.data_type
   pub capacity : old.capacity ≤ new.capacity
   pub byte_capacity : old.byte_capacity ≤ new.byte_capacity
+
+-- appending an item `count` times, all of them or none
+abbrev pub AppendsCopies : {T : Type 0} → ℕ → Result T Error → GrowingSlots → GrowingSlots → ℕ → Option (List ℕ) → Type 0
+AppendsCopies greatest r old new count item = AppendsSlots greatest r old new (replicate count (unwrap_or item [])) (replicate count (is_some item)) (count * option_map_or length item 0)
+
+-- `count` slots of an item come after the others, and no capacity falls
+abbrev pub GrownByCopies : GrowingSlots → GrowingSlots → ℕ → Option (List ℕ) → Type 0
+GrownByCopies old new count item = GrownBySlots old new (replicate count (unwrap_or item [])) (replicate count (is_some item)) (count * option_map_or length item 0)
 
 -- removing the last item: where it is not null, a copy of its bytes is returned
 pub record PopsBinary {V : Type 0} (bytes_of : V → List ℕ) (r : Result (Option (Option V)) Error) (old new : GrowingBinary) : Type 0 where

@@ -161,7 +161,7 @@ impl<O: Offset> BinaryArray<O> {
         ensures compact { IfOk result (λ a. IsCompact a) }
         ensures bytes { IfOk result (λ a.
             length (buffer_items a.values) ≡ sum (map (λ value. length value.now) values.entry.now)) }
-        // When an offset may not count the bytes, and which errors can come.
+        // When `Overflow` can come, and which errors can come.
         ensures overflow { IsErrOf result Error.Overflow → O.MAX < sum (map (λ value. length value.now) values.entry.now) }
         ensures only { IfErr result (λ e. (e ≡ Error.Overflow) ⊎ (e ≡ Error.OutOfMemory)) }
     {
@@ -173,7 +173,7 @@ impl<O: Offset> BinaryArray<O> {
     /// Returns an array of a copy of these items. The array has a validity bitmap exactly if an item is null. The
     /// logical type is `Binary`, or `LargeBinary` where `O` has 64 bits.
     ///
-    /// Stands for arrow2's `from`, which takes a slice.
+    /// Stands for arrow2's `from`.
     ///
     /// # Errors
     ///
@@ -187,7 +187,7 @@ impl<O: Offset> BinaryArray<O> {
         ensures compact { IfOk result (λ a. IsCompact a) }
         ensures bytes { IfOk result (λ a.
             length (buffer_items a.values) ≡ bytes_of_items (items_by_bytes items.entry.now)) }
-        // When an offset may not count the bytes, and which errors can come.
+        // When `Overflow` can come, and which errors can come.
         ensures overflow { IsErrOf result Error.Overflow → O.MAX < bytes_of_items (items_by_bytes items.entry.now) }
         ensures only { IfErr result (λ e. (e ≡ Error.Overflow) ⊎ (e ≡ Error.OutOfMemory)) }
     {
@@ -365,18 +365,17 @@ impl<O: Offset> BinaryArray<O> {
     /// bitmap, the call allocates memory for one.
     ///
     /// It is proved that `Left` has the array as it was, and that `Right` has the array's items, number of bytes and
-    /// logical type. It is proved that `Right` comes only where the offsets begin at 0 and end after the last byte, the
-    /// offsets and the bytes are not sliced, and the bitmap, if there is one, begins at bit 0. Three facts are not
-    /// proved: `Right` comes only where nobody shares the storage; `Right` has the same storage; `Right` comes whenever
-    /// all conditions of the list hold.
+    /// logical type. It is also proved that `Right` comes only where the offsets begin at 0 and end after the last
+    /// byte, the offsets and the bytes are not sliced, and the bitmap, if there is one, begins at bit 0. Three facts
+    /// are not proved: `Right` comes only where nobody shares the storage; `Right` has the same storage; `Right` comes
+    /// whenever all conditions of the list hold.
     ///
     /// Differs from arrow2, where a `MutableBinaryArray` without nulls needs no bitmap.
     ///
     /// # Errors
     ///
-    /// Only `OutOfMemory`, and only where the offsets are not sliced, begin at 0 and end after the last byte. The
-    /// array is then dropped. In the code it comes only if the offsets also have no other owner, and one of these
-    /// holds:
+    /// Only `OutOfMemory`, and only where the offsets are not sliced, begin at 0 and end after the last byte. The array
+    /// is then dropped. In the code it comes only if the offsets also have no other owner, and one of these holds:
     ///
     /// - there is no bitmap;
     /// - the bytes are shared or sliced;

@@ -1,5 +1,5 @@
 //! Slots that grow: bytes between offsets, with their validity.
-ghost use Rattle.std.specs.Prelude.{◌≡◌, ◌+◌, ◌*◌, ◌<◌, ◌≤◌, ◌^◌, ◌↔◌, ◌⊎◌, [], ◌∷◌, ◌++◌, All, false, length, map, replicate, sum, count_by, is_some, option_map, slice_index_or, vec_capacity, IfErr, IfNone, IfOk, IfSome, IsErrOf, IsNone, IsOk, OnErr, OnOk};
+ghost use Rattle.std.specs.Prelude.{◌≡◌, ◌+◌, ◌*◌, ◌<◌, ◌≤◌, ◌^◌, ◌↔◌, ◌⊎◌, [], ◌∷◌, ◌++◌, All, false, length, map, sum, count_by, is_some, option_map, slice_index_or, vec_capacity, IfErr, IfNone, IfOk, IfSome, IsErrOf, IsNone, IsOk, OnErr, OnOk};
 ghost use Rattle.arrow2_model.specs.Buffers.{buffer_items};
 ghost use Rattle.std.specs.Option.{is_none, option_copied, option_map_or, unwrap_or};
 ghost use Rattle.arrow2_walks.specs.Zipped.{slot, zipped};
@@ -7,7 +7,7 @@ ghost use Rattle.arrow2_model.specs.Parts.{part};
 ghost use Rattle.arrow2_validity.specs.OptionalValidity.{valid_items};
 ghost use Rattle.arrow2_text.specs.Binary.{binary_items, binary_values, slot_offset, slots_size, IsCompact};
 ghost use Rattle.arrow2_offset.specs.NestedLists.{cut};
-ghost use Rattle.arrow2_text.specs.Growth.{AppendsSlots, AreGrowingSlots, GrownBySlots, HasCapacityFor, LosesLastSlot, PopsSlot, ReservesSlots, bytes_of_items, values_of_items};
+ghost use Rattle.arrow2_text.specs.Growth.{AppendsCopies, AppendsSlots, AreGrowingSlots, GrownByCopies, GrownBySlots, HasCapacityFor, LosesLastSlot, PopsSlot, ReservesSlots, bytes_of_items, values_of_items};
 
 use crate::as_item::AsItem;
 use crate::slots::Slots;
@@ -106,8 +106,8 @@ impl<O: Offset> Growing<O> {
         Growing::with_capacity(data_type, alloc, capacity, byte_capacity)
     }
 
-    /// Returns the slots of these parts. Requires that the offsets begin at 0 and end after the last byte, and that
-    /// the validity has an item for each slot.
+    /// Returns the slots of these parts. Requires that the offsets begin at 0 and end after the last byte, and that the
+    /// validity has an item for each slot.
     pub(crate) fn of_parts(
         data_type: Rc<DataType>,
         offsets: Offsets<O>,
@@ -308,9 +308,7 @@ impl<O: Offset> Growing<O> {
 
     /// Appends an item `additional` times, or not at all.
     pub(crate) fn extend_constant(&mut self, additional: usize, item: Option<&[u8]>) -> Result<()>
-        ensures { let value = option_copied item.entry in
-            AppendsSlots O.MAX result self.old self.new (replicate additional (unwrap_or value []))
-            (replicate additional (is_some value)) (additional * option_map_or length value 0) }
+        ensures { AppendsCopies O.MAX result self.old self.new additional (option_copied item.entry) }
     {
         let len = item.unwrap_or(&[]).len();
         let Some(bytes) = additional.checked_mul(len) else {
@@ -330,9 +328,7 @@ impl<O: Offset> Growing<O> {
     fn repeat_reserved(&mut self, additional: usize, item: Option<&[u8]>)
         requires spare { HasCapacityFor O.MAX self.old additional
             (additional * option_map_or length (option_copied item) 0) }
-        ensures { let value = option_copied item.entry in
-            GrownBySlots self.old self.new (replicate additional (unwrap_or value []))
-            (replicate additional (is_some value)) (additional * option_map_or length value 0) }
+        ensures { GrownByCopies self.old self.new additional (option_copied item.entry) }
     {
         for _ in 0..additional {
             self.push_reserved(item);
@@ -352,8 +348,8 @@ impl<O: Offset> Growing<O> {
         let _ = pushed;
     }
 
-    /// Frees unused capacity if the allocator can. Without slots the capacity for slots is 0 afterwards, and without
-    /// bytes that for bytes.
+    /// Frees unused capacity if the allocator can. Where there is no slot, the capacity for slots is 0 afterwards;
+    /// where there is no byte, the capacity for bytes is.
     pub(crate) fn shrink_to_fit(&mut self) -> Result<()>
         ensures ok { IsOk result }
         ensures slots { AreGrowingSlots self.new self.old.values self.old.valid self.old.bytes self.old.data_type }

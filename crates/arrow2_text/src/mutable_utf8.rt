@@ -87,8 +87,9 @@ impl<O: Offset> MutableUtf8Array<O> {
         MutableUtf8Array::with_capacity(alloc, 0, 0)
     }
 
-    /// Returns an array without items, of this logical type, with capacity for `capacity` items and `byte_capacity`
-    /// bytes. Requires that the physical type of `data_type` is `Utf8`, or `LargeUtf8` where `O` has 64 bits.
+    /// Returns an array without items, of this logical type, with capacity for at least `capacity` items and
+    /// `byte_capacity` bytes. Requires that the physical type of `data_type` is `Utf8`, or `LargeUtf8` where `O` has 64
+    /// bits.
     ///
     /// # Errors
     ///
@@ -112,8 +113,8 @@ impl<O: Offset> MutableUtf8Array<O> {
         Ok(MutableUtf8Array { slots })
     }
 
-    /// Returns an array without items, of the default logical type of texts, with capacity for `capacity` items and
-    /// `byte_capacity` bytes.
+    /// Returns an array without items, of the default logical type of texts, with capacity for at least `capacity`
+    /// items and `byte_capacity` bytes.
     ///
     /// In arrow2 this call is `with_capacities`.
     ///
@@ -144,7 +145,8 @@ impl<O: Offset> MutableUtf8Array<O> {
     ///
     /// # Errors
     ///
-    /// Only `OutOfMemory`. The array then holds the items that it held.
+    /// Only `OutOfMemory`, and never where the last item is null or there is no item. After an error the array holds
+    /// the items that it held.
     pub fn pop(&mut self) -> Result<Option<Option<String>>>
         ensures { PopsBinary string_bytes result self.old self.new }
     {
@@ -153,8 +155,8 @@ impl<O: Offset> MutableUtf8Array<O> {
     }
 
     /// Returns an array of the items of an iterator, in their order, of the default logical type of texts. Requires
-    /// that the iterator ends, and that its `next` may be called until then. Does not read its
-    /// size hint.
+    /// that the iterator ends, and that its `next` may be called a first time. (By std's contract of `next`, it may
+    /// then be called again after each item.) Does not read the size hint.
     ///
     /// # Errors
     ///
@@ -240,8 +242,8 @@ impl<O: Offset> MutableUtf8Array<O> {
         self.slots.capacity()
     }
 
-    /// Returns the number of bytes that fit before it allocates, including the bytes that it holds. arrow2 has no
-    /// such call.
+    /// Returns the number of bytes that fit before it allocates, including the bytes that it holds. arrow2 has no such
+    /// call.
     pub fn byte_capacity(&self) -> usize
         ensures value { result ≡ self.now.byte_capacity }
         ensures within_capacity { self.now.bytes ≤ result }
@@ -291,7 +293,7 @@ impl<O: Offset> MutableUtf8Array<O> {
         self.push_slot(item.unwrap_or(""), valid)
     }
 
-    /// Appends a null, as [`MutableUtf8Array::push`] of `None`. Within both capacities it does not allocate.
+    /// Appends a null, as [`MutableUtf8Array::push`] of `None` does. Within both capacities it does not allocate.
     ///
     /// # Errors
     ///
@@ -310,8 +312,8 @@ impl<O: Offset> MutableUtf8Array<O> {
         self.slots.push(text.as_bytes(), valid)
     }
 
-    /// Appends texts that are not null. Within both capacities it does not allocate, else it allocates before it
-    /// copies any of them.
+    /// Appends each of these texts as an item that is not null. Within both capacities it does not allocate, else it
+    /// allocates before it copies any of them.
     ///
     /// Stands for arrow2's `extend_values` and `extend_trusted_len_values`, which take iterators.
     ///
@@ -355,9 +357,10 @@ impl<O: Offset> MutableUtf8Array<O> {
         self.slots.extend_constant(additional, item.as_item())
     }
 
-    /// Appends `len` items of `array` from item `start` on. The bytes under nulls are copied too: of these, contracts
-    /// state only that they count in the number of appended bytes. Requires that `start + len` is at most the length of
-    /// `array`. Within both capacities it does not allocate.
+    /// Appends the `len` items of `array` from item `start` on. Ignores the logical type of `array`. Copies the bytes
+    /// under nulls too, and these count for `Overflow` and for the capacity; no clause states which bytes they are.
+    /// Requires that `start + len` is at most the length of `array`. Within both capacities it does not allocate, else
+    /// it allocates before it copies any of them.
     ///
     /// In arrow2 this call is in `growable`.
     ///
@@ -381,8 +384,8 @@ impl<O: Offset> MutableUtf8Array<O> {
         self.slots.extend(slots, start, len)
     }
 
-    /// Frees unused capacity if the allocator can, which no clause states. Without items the capacity for items is 0
-    /// afterwards, and without bytes that for bytes. Always returns `Ok`. arrow2 returns no `Result`.
+    /// Frees unused capacity if the allocator can, which no clause states. An array without items then has a capacity
+    /// of 0 items, and one without bytes has a capacity of 0 bytes. Always returns `Ok`. arrow2 returns no `Result`.
     pub fn shrink_to_fit(&mut self) -> Result<()>
         ensures ok { IsOk result }
         // The items, the number of bytes and the logical type are as before.

@@ -35,8 +35,7 @@ use std::marker::Model;
 use std::rc::Rc;
 use std::str;
 
-/// An array of nullable texts: offsets cut one buffer of bytes into slots. Each slot is UTF-8, also
-/// under a null.
+/// An array of nullable texts: offsets cut one buffer of bytes into slots. Each slot is UTF-8, also under a null.
 ///
 /// Contracts see its logical type, its offsets, its bytes and its validity. Slices and clones share all four.
 /// `binary_items` is the list of its items, in which an item is a list of bytes or null.
@@ -123,8 +122,9 @@ impl<O: Offset> Utf8Array<O> {
 
     /// Returns the array of these parts: slot i is the text from byte `offsets[i]` up to, and without, byte
     /// `offsets[i + 1]`, and is null where bit i of the validity is unset. Without a validity no slot is null. Requires
-    /// that the physical type of `data_type` is `Utf8`, or `LargeUtf8` where `O` has 64 bits, that each slot is within
-    /// the values and UTF-8, and that the validity, if there is one, has a bit for each slot. Does not allocate.
+    /// that the physical type of `data_type` is `Utf8`, or `LargeUtf8` where `O` has 64 bits, that the last offset is
+    /// not past the values, that each slot is UTF-8, also under a null, and that the validity, if there is one, has a
+    /// bit for each slot. Does not allocate.
     ///
     /// Differs from arrow2, which takes a `DataType`, and panics where `try_new` fails.
     pub fn new(
@@ -184,7 +184,7 @@ impl<O: Offset> Utf8Array<O> {
         ensures compact { IfOk result (λ a. IsCompact a) }
         ensures bytes { IfOk result (λ a.
             length (buffer_items a.values) ≡ sum (map (λ value. length value.now) values.entry.now)) }
-        // When an offset may not count the bytes, and which errors can come.
+        // When `Overflow` can come, and which errors can come.
         ensures overflow { IsErrOf result Error.Overflow → O.MAX < sum (map (λ value. length value.now) values.entry.now) }
         ensures only { IfErr result (λ e. (e ≡ Error.Overflow) ⊎ (e ≡ Error.OutOfMemory)) }
     {
@@ -196,7 +196,7 @@ impl<O: Offset> Utf8Array<O> {
     /// Returns an array of a copy of these items. The array has a validity bitmap exactly if an item is null. The
     /// logical type is `Utf8`, or `LargeUtf8` where `O` has 64 bits.
     ///
-    /// Stands for arrow2's `from`, which takes a slice.
+    /// Stands for arrow2's `from`.
     ///
     /// # Errors
     ///
@@ -210,7 +210,7 @@ impl<O: Offset> Utf8Array<O> {
         ensures compact { IfOk result (λ a. IsCompact a) }
         ensures bytes { IfOk result (λ a.
             length (buffer_items a.values) ≡ bytes_of_items (items_by_bytes items.entry.now)) }
-        // When an offset may not count the bytes, and which errors can come.
+        // When `Overflow` can come, and which errors can come.
         ensures overflow { IsErrOf result Error.Overflow → O.MAX < bytes_of_items (items_by_bytes items.entry.now) }
         ensures only { IfErr result (λ e. (e ≡ Error.Overflow) ⊎ (e ≡ Error.OutOfMemory)) }
     {
@@ -384,7 +384,7 @@ impl<O: Offset> Utf8Array<O> {
     }
 
     /// Returns a `BinaryArray` of the same slots over the same storage. Its logical type is `Binary`, or `LargeBinary`
-    /// where `O` has 64 bits.
+    /// where `O` has 64 bits. Allocates only the `Rc` of this type.
     ///
     /// # Errors
     ///
@@ -398,7 +398,7 @@ impl<O: Offset> Utf8Array<O> {
     }
 
     /// Returns a `BinaryArray` of the same slots over the same storage. Its logical type is `Binary`, or `LargeBinary`
-    /// where `O` has 64 bits. arrow2 has `to_binary` alone.
+    /// where `O` has 64 bits. Allocates only the `Rc` of this type. arrow2 has `to_binary` alone.
     ///
     /// # Errors
     ///
@@ -420,18 +420,17 @@ impl<O: Offset> Utf8Array<O> {
     /// bitmap, the call allocates memory for one.
     ///
     /// It is proved that `Left` has the array as it was, and that `Right` has the array's items, number of bytes and
-    /// logical type. It is proved that `Right` comes only where the offsets begin at 0 and end after the last byte, the
-    /// offsets and the bytes are not sliced, and the bitmap, if there is one, begins at bit 0. Three facts are not
-    /// proved: `Right` comes only where nobody shares the storage; `Right` has the same storage; `Right` comes whenever
-    /// all conditions of the list hold.
+    /// logical type. It is also proved that `Right` comes only where the offsets begin at 0 and end after the last
+    /// byte, the offsets and the bytes are not sliced, and the bitmap, if there is one, begins at bit 0. Three facts
+    /// are not proved: `Right` comes only where nobody shares the storage; `Right` has the same storage; `Right` comes
+    /// whenever all conditions of the list hold.
     ///
     /// Differs from arrow2, where a `MutableUtf8Array` without nulls needs no bitmap.
     ///
     /// # Errors
     ///
-    /// Only `OutOfMemory`, and only where the offsets are not sliced, begin at 0 and end after the last byte. The
-    /// array is then dropped. In the code it comes only if the offsets also have no other owner, and one of these
-    /// holds:
+    /// Only `OutOfMemory`, and only where the offsets are not sliced, begin at 0 and end after the last byte. The array
+    /// is then dropped. In the code it comes only if the offsets also have no other owner, and one of these holds:
     ///
     /// - there is no bitmap;
     /// - the bytes are shared or sliced;
@@ -480,7 +479,7 @@ impl<O: Offset> Clone for Utf8Array<O> {
     }
 }
 
-/// Returns a `BinaryArray` of these slots, whose logical type is `Binary` or `LargeBinary`.
+/// Returns a `BinaryArray` of these slots. Its logical type is `Binary`, or `LargeBinary` where `O` has 64 bits.
 fn to_byte_strings<O: Offset>(slots: Slots<O>) -> Result<BinaryArray<O>>
     ensures ok { IfOk result (λ a. a ≡ record slots { data_type = default_binary O.IS_LARGE }) }
     ensures only { IfErr result (λ e. e ≡ Error.OutOfMemory) }

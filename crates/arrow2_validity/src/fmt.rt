@@ -1,4 +1,4 @@
-//! What the `Debug` texts of arrays of numbers, byte strings and texts share.
+//! What the `Debug` texts of primitive arrays and of arrays of byte strings and texts share.
 ghost use Rattle.std.specs.Fmt.{WritesOnOk};
 ghost use Rattle.arrow2_validity.specs.ItemTexts.{separator};
 

@@ -52,7 +52,7 @@ impl Validity {
     }
 
     /// Returns the validity of `len` items with this bitmap; without a bitmap no item is null. Requires that the
-    /// bitmap, if there is one, has `len` items.
+    /// bitmap, if there is one, has `len` items. Does not allocate.
     pub fn new(len: usize, bitmap: Option<Bitmap>) -> Validity
         requires same_length { ForSome bitmap (λ b. length (items_of b) ≡ len) }
         ensures value { result ≡ record { len = len; bitmap = bitmap } }

@@ -6,12 +6,13 @@ ghost use Rattle.arrow2_walks.specs.Runs.{runs, AreRuns, InRuns};
 ghost use Rattle.arrow2_walks.specs.Selections.{selection};
 ghost use Rattle.arrow2_walks.specs.Slots.{OptionalZipYieldsFirst, OptionalZipYieldsLast, ZipYieldsFirst, ZipYieldsLast};
 
+/// If each iterator of a `ZipValidityIter` yields the first item of its list, and both lists have equal lengths, a step
+/// of the zip yields the first item of the zipped list, and leaves lists of equal lengths. The same holds for the last
+/// items.
+///
 /// `rest` maps the iterator over values to the list of items that it has still to yield. `valid` does so for the
 /// iterator over their validity. `view` maps each element of the iterator over values to an item, for example a `&T` to
 /// its `T`.
-///
-/// If both lists have equal lengths and each iterator yields the first item of its list, a step of the zip yields the
-/// first item of the zipped list, and leaves lists of equal lengths. The same holds for the last items.
 #[tactic(auto, using(crate::proofs::Slots::slots))]
 pub fn a_zip_yields_its_slots<I: Iterator, V: Iterator<Item = bool>, X>()
     ensures first { (view : I.Item → X) (rest : I → List X) (valid : V → List Bool) →
@@ -20,7 +21,8 @@ pub fn a_zip_yields_its_slots<I: Iterator, V: Iterator<Item = bool>, X>()
         ZipYieldsLast view rest valid }
 {}
 
-/// The same for `ZipValidity`, whose validity may be missing. Where it is missing, no item is null.
+/// As [`a_zip_yields_its_slots`], for `ZipValidity`, whose validity may be missing: where it is missing, no item is
+/// null.
 #[tactic(auto, using(crate::proofs::Slots::slots))]
 pub fn a_zip_with_or_without_validity_yields_its_slots<I: Iterator, V: Iterator<Item = bool>, X>()
     ensures first { (view : I.Item → X) (rest : I → List X) (valid : V → List Bool) →

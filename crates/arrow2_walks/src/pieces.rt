@@ -11,8 +11,9 @@ use arrow2_types::{Error, Result};
 use std::alloc::Global;
 use std::marker::Model;
 
-/// A bitmap that is cut into consecutive slices, its pieces. Contracts see the items of each piece, its bytes, the bit
-/// at which its items begin, and how many bytes the cuts have counted as read.
+/// A bitmap that is cut into consecutive slices, its pieces. A cut reads bytes to count the false items of both new
+/// pieces. Contracts see the items of each piece, its bytes, the bit at which its items begin, and how many bytes the
+/// cuts have counted as read.
 ///
 /// The `k` cuts of a bitmap of `L` items, in any order, count at most `(2 * L * lg L + 30 * k) / 8` bytes as read. Here
 /// `lg` is the logarithm to the base 2, rounded down. It is not proved that the cuts read only the bytes that they

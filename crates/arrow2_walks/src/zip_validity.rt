@@ -11,8 +11,8 @@ ghost use Rattle.arrow2_walks.specs.Zips.{values_of, validity_of, either_values,
 use arrow2_bitmap::Bitmap;
 use arrow2_bits::BitmapIter;
 
-/// A double-ended iterator over values and their validity: an item is `Some` of the value where the value is valid,
-/// and `None` where it is null.
+/// A double-ended iterator over values and their validity: an item is `Some` of the value where the value is valid, and
+/// `None` where it is null.
 ///
 /// Differs from arrow2: `nth` is the standard library's default, which calls `next`. There is no type parameter for a
 /// value: its type is `I::Item`.

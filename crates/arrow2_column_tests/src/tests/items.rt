@@ -8,7 +8,6 @@ use arrow2::compute::aggregate::{max_binary, max_boolean, min_binary, min_boolea
 use arrow2::datatypes;
 use arrow2::types::Offset;
 use std::alloc::Global;
-use std::cmp::Ordering;
 use std::process::Abort;
 
 /// Returns the items that are not null.
@@ -114,28 +113,6 @@ fn extremes_of_booleans_agree_with_lists(rt: HostRuntime) {
     extremes_agree(&rt, alloc, 1_000_000, 3);
 }
 
-/// Returns the item that compares so with the other, or the one that is not null.
-fn extreme_of_two<T: Copy + Ord>(item: Option<T>, other: Option<T>, wanted: Ordering) -> Option<T> {
-    match (item, other) {
-        (Some(value), Some(next)) => Some(if next.cmp(&value) == wanted {
-            next
-        } else {
-            value
-        }),
-        (None, _) => other,
-        (_, None) => item,
-    }
-}
-
-/// Returns the item that compares so with each other item: with `Less` the least one, with `Greater` the greatest.
-fn extreme<T: Copy + Ord>(items: &[Option<T>], wanted: Ordering) -> Option<T> {
-    let mut found: Option<T> = None;
-    for item in items {
-        found = extreme_of_two(found, *item, wanted);
-    }
-    found
-}
-
 /// Checks the items that an iterator over texts gives, and the values that are not null.
 fn texts_come_in_order<O: Offset>(rt: &impl Abort, array: &Utf8Array<O>, items: &[Option<&str>]) {
     let (mut iter, mut values) = (array.iter(), array.non_null_values_iter());
@@ -167,12 +144,15 @@ fn texts_agree<O: Offset>(rt: &impl Abort, alloc: Global, len: usize, nulls: usi
     let array = texts_together::<O>(rt, alloc, items);
     texts_come_in_order(rt, &array, items);
     texts_come_from_the_back(rt, &array, items);
-    let least = extreme(items, Ordering::Less);
-    assert_that(rt, min_binary(&array) == least.map(|text| text.as_bytes()));
-    let greatest = extreme(items, Ordering::Greater);
+    let values = values_of(rt, alloc, items);
+    let values = values.as_slice();
     assert_that(
         rt,
-        max_binary(&array) == greatest.map(|text| text.as_bytes()),
+        min_binary(&array) == values.iter().min().map(|text| text.as_bytes()),
+    );
+    assert_that(
+        rt,
+        max_binary(&array) == values.iter().max().map(|text| text.as_bytes()),
     );
 }
 

@@ -1,9 +1,9 @@
-//! Comparisons of byte strings and of texts, by the order of their bytes: the first bytes that differ decide. If none
-//! differ, the shorter one is below. An item of the result is null where an input
-//! item is null. The result has a validity bitmap exactly where an input has one.
+//! Comparisons of byte strings and of texts, in lexicographic order of their bytes: the first bytes that differ decide.
+//! If none differ, the shorter one is below the longer one. An item of the result is null where an input item is null.
+//! The result has a validity bitmap exactly if an input has one.
 //!
-//! Differs from arrow2: texts are compared here too, where arrow2 has `comparison::utf8`, and the scalar for texts is a
-//! slice of bytes. arrow2 has no call `compare_each`.
+//! Differs from arrow2: these calls compare texts too, for which arrow2 has `comparison::utf8`, and the scalar for
+//! texts is a slice of bytes. arrow2 has no call `compare_each`.
 ghost use Rattle.std.specs.Prelude.{◌≡◌, ◌<◌, ◌↔◌, Bool, List, false, length, map, not, option_map, slice_index_or, IfErr, IfOk, IsNone, ℕ};
 ghost use Rattle.std.specs.Ordering.{partial_ge, partial_gt, partial_le, partial_lt};
 ghost use Rattle.std.specs.Simd.Lanes.{zip2};
@@ -33,8 +33,9 @@ pub fn compare_each<A: Binary, F: Fn(&[u8]) -> bool>(array: &A, test: F) -> Resu
         ReturnsOnEach (binary_values (A.parts array.now)) (F.post test) outcome →
         IfOk result (λ a. boolean_items a ≡ map (option_map outcome) (binary_items (A.parts array.now))) }
     // For any `test`: the boolean stored at an index is one that `test` may return for the bytes there.
-    ensures results { IfOk result (λ a. (index : ℕ) → index < length (binary_values (A.parts array.now)) →
-        IsResultAt (binary_values (A.parts array.now)) (F.post test) index (slice_index_or (items_of a.values) index false)) }
+    ensures results { let values = binary_values (A.parts array.now) in
+        IfOk result (λ a. (index : ℕ) → index < length values →
+        IsResultAt values (F.post test) index (slice_index_or (items_of a.values) index false)) }
     ensures len { IfOk result (λ a. length (items_of a.values) ≡ length (binary_values (A.parts array.now))) }
     ensures validity { IfOk result (λ a. a.validity ≡ (A.parts array.now).validity) }
     ensures only { IfErr result (λ e. e ≡ Error.OutOfMemory) }
@@ -52,7 +53,7 @@ pub fn compare_each<A: Binary, F: Fn(&[u8]) -> bool>(array: &A, test: F) -> Resu
     Ok(BooleanArray::from_parts(tested, array.optional_validity().clone()?))
 }
 
-/// Returns, item by item, whether the bytes are those of the scalar, and null where the item is null.
+/// Returns, item by item, whether the bytes equal the scalar, and null where the item is null.
 ///
 /// # Errors
 ///
@@ -66,7 +67,7 @@ pub fn eq_scalar<A: Binary>(array: &A, scalar: &[u8]) -> Result<BooleanArray>
     compare_each(array, |value| value == scalar)
 }
 
-/// Returns, item by item, whether the bytes are not those of the scalar, and null where the item is null.
+/// Returns, item by item, whether the bytes differ from the scalar, and null where the item is null.
 ///
 /// # Errors
 ///
@@ -150,10 +151,10 @@ fn compare_pairs<A: Binary, F: Fn(&[u8], &[u8]) -> bool>(
 ) -> Result<BooleanArray>
     requires same_length { length (binary_items (A.parts lhs.now)) ≡ length (binary_items (A.parts rhs.now)) }
     requires callable { IsCallableWithPairs (binary_values (A.parts lhs.now)) (binary_values (A.parts rhs.now)) (F.pre test) }
-    ensures items { (outcome : List ℕ → List ℕ → Bool) →
-        ReturnsOnPairs (binary_values (A.parts lhs.now)) (binary_values (A.parts rhs.now)) (F.post test) outcome →
-        IfOk result (λ a. boolean_items a
-        ≡ zip2 (of_both outcome) (binary_items (A.parts lhs.now)) (binary_items (A.parts rhs.now))) }
+    ensures items { let left = A.parts lhs.now in let right = A.parts rhs.now in
+        (outcome : List ℕ → List ℕ → Bool) →
+        ReturnsOnPairs (binary_values left) (binary_values right) (F.post test) outcome →
+        IfOk result (λ a. boolean_items a ≡ zip2 (of_both outcome) (binary_items left) (binary_items right)) }
     ensures bitmap { IfOk result (λ a. IsNone a.validity.bitmap
         ↔ (IsNone (A.parts lhs.now).validity.bitmap × IsNone (A.parts rhs.now).validity.bitmap)) }
     ensures only { IfErr result (λ e. e ≡ Error.OutOfMemory) }
@@ -178,8 +179,8 @@ fn compare_pairs<A: Binary, F: Fn(&[u8], &[u8]) -> bool>(
     Ok(BooleanArray::from_parts(tested, validity))
 }
 
-/// Returns, index by index, whether the item of `lhs` has the same bytes as that of `rhs`, and null where either is
-/// null. Requires that both have equal lengths.
+/// Returns, index by index, whether the item of `lhs` equals that of `rhs`, and null where either is null. Requires
+/// that both have equal lengths.
 ///
 /// # Errors
 ///
@@ -195,8 +196,8 @@ pub fn eq<A: Binary>(lhs: &A, rhs: &A) -> Result<BooleanArray>
     compare_pairs(lhs, rhs, |left, right| left == right)
 }
 
-/// Returns, index by index, whether the item of `lhs` has other bytes than that of `rhs`, and null where either is
-/// null. Requires that both have equal lengths.
+/// Returns, index by index, whether the item of `lhs` differs from that of `rhs`, and null where either is null.
+/// Requires that both have equal lengths.
 ///
 /// # Errors
 ///

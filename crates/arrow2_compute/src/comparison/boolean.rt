@@ -1,5 +1,5 @@
 //! Comparisons of booleans, where `false` is below `true`. An item of the result is null where an input item is null.
-//! The result has a validity bitmap exactly where an input has one.
+//! The result has a validity bitmap exactly if an input has one.
 ghost use Rattle.std.specs.Prelude.{◌≡◌, ◌↔◌, ◌∷◌, [], Bool, length, map, not, option_map, IfErr, IfOk, IsNone};
 ghost use Rattle.std.specs.Simd.Lanes.{zip2};
 ghost use Rattle.arrow2_array.specs.Items.{boolean_items};
