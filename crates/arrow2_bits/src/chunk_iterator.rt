@@ -11,7 +11,7 @@ use arrow2_chunk::{BitChunk, BitChunkIter};
 use std::marker::Model;
 
 /// An iterator over a list of booleans by words: the full words come in order, and the bits after them are the
-/// remainder.
+/// remainder, which no call of `next` changes.
 ///
 /// Differs from arrow2: it needs no `TrustedLen`.
 pub trait BitChunkIterExact<B: BitChunk>: Iterator<Item = B> {
@@ -108,10 +108,10 @@ impl<'a, T: BitChunk> BitChunks<'a, T> {
         self.count
     }
 
-    /// Returns the word that holds the remainder in its lowest bits. The bits above the remainder are not masked. The
-    /// lowest of them are the padding bits of the stored byte that holds the last item; the others are false. The
-    /// exception is an iterator that was made of fewer bits than a word has: there they are whatever bits are stored
-    /// after the remainder. So mask the word to [`BitChunks::remainder_len`] bits.
+    /// Returns the word that holds the remainder in its lowest bits. The bits above the remainder are not masked. Where
+    /// the iterator was made of at least as many bits as a word has, they are the padding bits of the byte that holds
+    /// the last item, then false. Where it was made of fewer bits, they are whatever bits are stored after the
+    /// remainder, then false past the end of the bytes. So mask the word to [`BitChunks::remainder_len`] bits.
     pub fn remainder(&self) -> T
         ensures spill { T.number result ≡ self.now.spill }
         ensures rest { take (length (rest T.WIDTH self.now.items))

@@ -17,7 +17,7 @@ use std::mem;
 ///
 /// Contracts see:
 ///
-/// - the bytes of the chunks, as written so far, without those of the chunks up to the last one that `next` returned;
+/// - the bytes of the chunks, as written so far; `next` takes out the chunk that it returns and all chunks before it;
 /// - the index in these bytes at which the next chunk begins;
 /// - the number of bytes of a chunk;
 /// - the bytes of the remainder, and the number of bits of the remainder.
@@ -52,6 +52,8 @@ impl<'a, T> Model for BitChunksExactMut<'a, T> {
 
 impl<'a, T: BitChunk> BitChunksExactMut<'a, T> {
     /// Returns an iterator over the first `len` bits. Requires that they are inside the bytes; arrow2 panics otherwise.
+    /// What is written through the iterator is written to `bytes`; clauses state only what the iterator holds, and not
+    /// what `bytes` holds after the iterator is gone.
     pub fn new(bytes: &'a mut [u8], len: usize) -> BitChunksExactMut<'a, T>
         requires { len ≤ 8 * length bytes.old }
         // The bytes of the full chunks. The next chunk is the first one.
@@ -126,7 +128,9 @@ impl<'a, T> BitChunksExactMut<'a, T> {
         true
     }
 
-    /// Returns the remainder as a mutable slice: the bytes after the chunks, up to the byte that holds the last bit.
+    /// Returns the remainder as a mutable slice: the bytes after the chunks, up to and including the byte that holds
+    /// the last bit. Afterwards the iterator holds the bytes that were written through the slice, and its chunks are as
+    /// they were.
     pub fn remainder(&mut self) -> &mut [u8]
         ensures bytes { result.now ≡ self.old.remainder }
         ensures* writes_back { sem 𝓛 (LendsRemainder T.row self.entry result) }

@@ -52,9 +52,9 @@ impl<'a> BitmapIter<'a> {
         }
     }
 
-    /// Returns the same iterator as [`BitmapIter::new`], where `offset + len` fits a `usize`. Keeps bit offset and
-    /// index as one number, so that no item costs an addition of both. Requires that the bits are inside the bytes, and
-    /// that `offset + len` fits a `usize`.
+    /// Returns an iterator over the same items as [`BitmapIter::new`] does. Keeps the bit offset and the index as one
+    /// number, so that no item costs an addition of both. Requires that these bits are inside the bytes, and that
+    /// `offset + len` fits a `usize`.
     pub fn within(bytes: &'a [u8], offset: usize, len: usize) -> BitmapIter<'a>
         requires inside { offset + len ≤ 8 * length bytes.now }
         requires fits { offset + len < 2 ^ 64 }
@@ -69,7 +69,7 @@ impl<'a> BitmapIter<'a> {
     }
 }
 
-/// Returns an iterator over the same items still to come. Does not allocate.
+/// Returns an iterator over the same items still to come. Does not allocate, and always returns `Ok`.
 impl<'a> Clone for BitmapIter<'a> {
     ghost is_clone = { λ i copy. copy ≡ i };
 

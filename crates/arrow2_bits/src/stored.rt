@@ -37,7 +37,8 @@ impl<'a> Stored<'a> {
         self.bytes.len()
     }
 
-    /// Returns the `N` bytes from byte `i` on, and counts `N` reads. Requires that these bytes are inside.
+    /// Returns the `N` bytes from byte `i` on, and counts `N` reads. Requires that `i + N` is at most the number of
+    /// bytes.
     pub fn fetch<const N: usize>(&mut self, i: usize) -> [u8; N]
         requires inside { i + N ≤ length self.old.bytes }
         ensures fetched { result ≡ part self.old.bytes i N }

@@ -25,7 +25,7 @@ impl<T> Model for Bytes<T> {
     ghost view = { λ b. b.items.items };
 }
 
-/// Does not allocate.
+/// Returns storage that holds the vector, which is moved and not copied. Does not allocate.
 impl<T> From<Vec<T>> for Bytes<T> {
     ghost from_gives = { λ items b. b ≡ items.items };
 

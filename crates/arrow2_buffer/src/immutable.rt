@@ -161,8 +161,9 @@ impl<T> Buffer<T> {
     }
 
     /// Returns the items as a mutable slice if nobody else shares the storage, otherwise `None`. Does not allocate.
-    /// Afterwards the buffer holds the items that were written through the slice, and the rest of the storage is as it
-    /// was. No clause states when the result is `Some`.
+    /// When the borrow ends, the buffer holds the items that the caller wrote through the slice, and the rest of the
+    /// storage is as it was. Where the result is `None`, the buffer is as it was. No clause states when the result is
+    /// `Some`.
     ///
     /// A caller with a contract of its own uses [`Buffer::change_slice`], since the prover does not by itself prove
     /// facts on items that are written through a `&mut` inside an `Option`.

@@ -42,7 +42,7 @@ pub trait BitChunk: PrimInt + NativeType {
         ensures fits { number result < 2 ^ WIDTH }
         ensures value { number result ≡ natural_from Self.SIZE (Self.Bytes.items bytes) };
 
-    /// Returns the word with these bytes in little-endian order. Requires exactly the bytes of a word.
+    /// Returns the word with these bytes in little-endian order. Requires exactly `SIZE` bytes.
     fn from_ne_slice(bytes: &[u8]) -> Self
         requires { length bytes.now ≡ Self.SIZE }
         ensures fits { number result < 2 ^ WIDTH }

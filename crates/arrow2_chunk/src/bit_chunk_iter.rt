@@ -8,7 +8,7 @@ ghost use Rattle.arrow2_chunk.specs.Ones.{ones};
 use crate::bit_chunk::BitChunk;
 use std::marker::Model;
 
-/// An iterator over the lowest bits of a word: contracts see the list of the items still to come.
+/// An iterator over the lowest bits of a word, the lowest first: contracts see the list of the items still to come.
 #[derive(Drop)]
 pub struct BitChunkIter<T: BitChunk> {
     value: T,
@@ -30,7 +30,8 @@ impl<T: BitChunk> Model for BitChunkIter<T> {
 
 #[tactic(auto, using(arrow2_model::proofs::Chunks::word_cursor))]
 impl<T: BitChunk> BitChunkIter<T> {
-    /// Returns an iterator over the lowest `len` bits of the word. Requires that `len` is at most `WIDTH`.
+    /// Returns an iterator over the lowest `len` bits of the word, the lowest first. Requires that `len` is at most
+    /// `WIDTH`.
     pub fn new(value: T, len: usize) -> BitChunkIter<T>
         requires { len ≤ T.WIDTH }
         ensures { result ≡ take len (unnum T.WIDTH (T.number value)) }

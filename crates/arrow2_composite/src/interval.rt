@@ -1,4 +1,4 @@
-//! Spans of time in calendar and clock units.
+//! Intervals: spans of time in calendar and clock units.
 ghost use Rattle.std.specs.Prelude.{◌≡◌, ◌≢◌, ◌++◌, ◌^◌, ◌<◌, ◌+◌, ℕ, ℤ, List, [], ◌∷◌, Some, codes, length, pos, neg_ℤ, reverse, slice_index, take, drop};
 ghost use Rattle.std.specs.Fmt.{signed_decimal};
 ghost use Rattle.arrow2_model.specs.Digits.{digits, integer_from};

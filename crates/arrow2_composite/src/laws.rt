@@ -9,7 +9,7 @@ use crate::wide::i256;
 use std::cmp::{Ord, PartialEq};
 use std::hash::Hash;
 
-/// Equal spans of time hash alike.
+/// Equal intervals hash alike.
 pub fn equal_spans_hash_alike()
     ensures days { (a b : days_ms) → IsTrue (⟦<days_ms as PartialEq>⟧.eq a b) →
         ⟦<days_ms as Hash>⟧.hash_input a ≡ ⟦<days_ms as Hash>⟧.hash_input b }

@@ -1,4 +1,4 @@
-//! Native types that are made of several numbers: spans of time, and numbers of 256 bits.
+//! Native types that are made of several numbers: intervals, and integers of 256 bits.
 #![tactic(auto)]
 
 mod interval;

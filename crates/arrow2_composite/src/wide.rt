@@ -18,10 +18,10 @@ use std::hash::{Hash, Hasher};
 use std::marker::Model;
 use std::ops::Neg;
 
-/// A signed number of 256 bits: contracts see the number. Equality, order and hash are those of that number.
+/// A signed integer of 256 bits: contracts see the number. Equality and order are those of that number. A hasher gets
+/// its high word, then its low word.
 ///
-/// Differs from arrow2: the words are private, `to_le_bytes` has the lowest byte first, and negation is
-/// exact.
+/// Differs from arrow2: the words are private, `to_le_bytes` has the lowest byte first, and negation is exact.
 #[allow(non_camel_case_types)]
 #[derive(Debug, Clone, Copy)]
 pub struct i256 {
@@ -55,7 +55,7 @@ impl i256 {
         i256 { high: hi, low: lo }
     }
 
-    /// Returns the two words of the number, the higher one first.
+    /// Returns the two words from which [`i256::from_words`] makes the number, the higher one first.
     pub fn into_words(self) -> (i128, i128)
         ensures { words_value result.0 result.1 ≡ self }
     {

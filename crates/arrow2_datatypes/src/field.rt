@@ -58,7 +58,7 @@ impl Field {
         }
     }
 
-    /// Its logical type.
+    /// Returns the logical type.
     pub fn data_type(&self) -> &DataType
         ensures { result.now ≡ self.now.data_type }
     {

@@ -21,7 +21,7 @@ pub fn extensions_are_laid_out_as_what_they_extend()
     ensures { (t : DataType) → physical (logical t) ≡ physical t }
 {}
 
-/// A type from which the extensions were removed has no more of them: to remove them again changes nothing.
+/// To remove the extensions around a type twice is the same as to remove them once.
 #[tactic(auto, using(crate::proofs::Tables::tables))]
 pub fn a_logical_type_is_its_own()
     ensures { (t : DataType) → logical (logical t) ≡ logical t }

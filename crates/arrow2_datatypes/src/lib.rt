@@ -189,8 +189,9 @@ impl DataType {
         }
     }
 
-    /// Returns the type without its extensions: the type itself if it is no extension, else the type that is left when
-    /// each extension is removed. The result is never an extension.
+    /// Returns the type without the extensions around it: the type itself if it is no extension, else what is left when
+    /// these are removed. The result is never an extension. The types of fields, items and dictionary values inside it
+    /// keep their extensions.
     pub fn to_logical_type(&self) -> &DataType
         ensures { result.now ≡ logical self.now }
     {
@@ -201,7 +202,7 @@ impl DataType {
     }
 }
 
-/// The type of the same name.
+/// Returns the type of the same name.
 impl From<IntegerType> for DataType {
     ghost from_gives = { λ integer t. t ≡ of_integer integer };
 
@@ -219,9 +220,9 @@ impl From<IntegerType> for DataType {
     }
 }
 
-/// The logical type that belongs to a native type: the type of the same name where there is one, a decimal of precision
-/// 32 and scale 32 for `Int128` and for `Int256`, and the interval of the same layout for `DaysMs` and for
-/// `MonthDayNano`.
+/// Returns the logical type that belongs to a native type: the type of the same name where there is one,
+/// `Decimal(32, 32)` for `Int128`, `Decimal256(32, 32)` for `Int256`, `Interval(DayTime)` for `DaysMs`, and
+/// `Interval(MonthDayNano)` for `MonthDayNano`.
 impl From<PrimitiveType> for DataType {
     ghost from_gives = { λ primitive t. t ≡ of_primitive primitive };
 

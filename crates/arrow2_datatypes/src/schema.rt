@@ -56,7 +56,7 @@ impl Schema {
     /// Returns the schema of the fields that the predicate accepts, in order, with the same metadata. Calls the
     /// predicate with the index of each field and the field. Requires that the predicate may be called with each index
     /// and the field at that index. The clause `fields` fixes the fields where the contract of the predicate fixes each
-    /// result. Does not allocate.
+    /// result. Does not allocate, unless the predicate does.
     pub fn filter<F: Fn(usize, &Field) -> bool>(self, predicate: F) -> Schema
         requires { IsCallableWithFields (F.pre predicate) self.fields.items }
         ensures fields { (accepts : ℕ → Field → Bool) →

@@ -11,8 +11,9 @@ use arrow2_chunk::BitChunk;
 use std::convert::AsSlice;
 
 /// Replaces each word of the first `len` bits by the result of `op` for this word and the row of words at its index.
-/// Padding bits are false afterwards, whatever they were before and whatever `op` returns for them. Does not allocate.
-/// Requires that `bytes` has exactly the bytes that `len` bits need, that each list of `rows` has `len` items, and that
+/// Where fewer bits are left for the last words, `op` gets these words padded with false. Padding bits of `bytes` are
+/// false afterwards, whatever they were before and whatever `op` returns for them. Does not allocate. Requires that
+/// `bytes` has exactly the bytes that `len` bits need, that each list of `rows` has `len` items still to come, and that
 /// `op` accepts every word and row.
 pub fn assign_rows<T: BitChunk, S: WordRows<T>, F: Fn(T, S::Row) -> T>(
     bytes: &mut [u8],

@@ -12,16 +12,17 @@ use crate::rows::WordRows;
 use arrow2_bits::bytes_for;
 use std::alloc::{AllocError, Global};
 
-/// Overwrites `bytes` with the results of `op` for each row of words, from bit 0 on. Padding bits are false afterwards.
-/// Does not allocate. Requires that `bytes` has exactly the bytes that `len` bits need, that each list of `rows` has
-/// `len` items, and that `op` accepts every row.
+/// Overwrites `bytes` with the results of `op` for each row of words of 64 bits, from bit 0 on. Where fewer items are
+/// left for the last row, `op` gets its words padded with false. Padding bits of `bytes` are false afterwards. Does not
+/// allocate. Requires that `bytes` has exactly the bytes that `len` bits need, that each list of `rows` has `len` items
+/// still to come, and that `op` accepts every row.
 pub fn write_rows<S: WordRows<u64>, F: Fn(S::Row) -> u64>(
     bytes: &mut [u8],
     len: usize,
     rows: S,
     op: F,
 )
-    // `op` accepts each row, and each list of `rows` has `len` items.
+    // `op` accepts each row, each list of `rows` has `len` items, and `bytes` has exactly the bytes that these need.
     requires callable { F.IsAlwaysCallable op }
     requires same_lengths { S.same_lengths rows }
     requires len { S.len rows ≡ len }
@@ -43,8 +44,10 @@ pub fn write_rows<S: WordRows<u64>, F: Fn(S::Row) -> u64>(
     assign_rows(bytes, len, rows, |_own: u64, row| op(row));
 }
 
-/// Returns the bytes of the results of `op` for each row of words: exactly the bytes that `len` bits need, with padding
-/// bits false. Allocates once. Requires that each list of `rows` has `len` items, and that `op` accepts every row.
+/// Returns the bytes of the results of `op` for each row of words of 64 bits: exactly the bytes that `len` bits need,
+/// with padding bits false. Where fewer items are left for the last row, `op` gets its words padded with false.
+/// Allocates at most once. Requires that each list of `rows` has `len` items still to come, and that `op` accepts every
+/// row.
 ///
 /// # Errors
 ///

@@ -24,8 +24,8 @@ pub trait WordRows<B: BitChunk>: Drop {
     // All lists have equal lengths.
     ghost same_lengths: { Self → Type 0 };
 
-    /// Returns the next row, or `None` where fewer items are left than a word has. Requires that all lists have equal
-    /// lengths.
+    /// Returns the next row, or `None` where fewer items are left than a word has; then these items stay. Requires that
+    /// all lists have equal lengths.
     fn next_row(&mut self) -> Option<Self::Row>
         requires { same_lengths self.old }
         ensures same_lengths { same_lengths self.new }
@@ -41,7 +41,8 @@ pub trait WordRows<B: BitChunk>: Drop {
         ensures fits { AreWords B.WIDTH (words result) };
 }
 
-/// Rows of no list: a row without words for each full word of `left` items, and one for the items after these words.
+/// Rows of no list, for `left` items: a row without words for each full word, and one for the items after the full
+/// words.
 #[derive(Drop)]
 pub struct NoList {
     /// The number of items still to come.

@@ -8,9 +8,10 @@ use crate::simd::{binary_lanes, unary_lanes};
 use crate::truth_tables::{binary_outputs, unary_outputs};
 use std::simd::prelude::*;
 
-/// Replaces each of the first `len` bits by the output of table `t` for this bit and the bit of `other` at its index.
-/// Padding bits are false afterwards, whatever they were. Does not allocate. Requires that `bytes` has exactly the
-/// bytes that `len` bits need, and that `other` has at least `len` bits.
+/// Replaces each of the first `len` bits by the output of the truth table `t`: bit `a + 2 * b` of `t`, where `a` is
+/// this bit and `b` is the bit of `other` at its index, as 0 or 1. Reads only the four lowest bits of `t`. Padding bits
+/// are false afterwards, whatever they were. Does not allocate. Requires that `bytes` has exactly the bytes that `len`
+/// bits need, and that `other` has at least `len` bits.
 pub fn assign_binary(bytes: &mut [u8], other: &[u8], len: usize, t: u8)
     requires exact { length bytes.old ≡ (len + 7) / 8 }
     requires inside { len ≤ 8 * length other.now }
@@ -22,8 +23,9 @@ pub fn assign_binary(bytes: &mut [u8], other: &[u8], len: usize, t: u8)
     clear_padding(bytes, len);
 }
 
-/// Replaces each of the first `len` bits by the output of table `t`, of one input, for this bit. Padding bits are false
-/// afterwards, whatever they were. Does not allocate. Requires exactly the bytes that `len` bits need.
+/// Replaces each of the first `len` bits by the output of the truth table `t`: bit `a` of `t`, where `a` is this bit as
+/// 0 or 1. Reads only the two lowest bits of `t`. Padding bits are false afterwards, whatever they were. Does not
+/// allocate. Requires that `bytes` has exactly the bytes that `len` bits need.
 pub fn assign_unary(bytes: &mut [u8], len: usize, t: u8)
     requires exact { length bytes.old ≡ (len + 7) / 8 }
     ensures canonical { IsCanonical bytes.new len }
@@ -107,7 +109,8 @@ fn write_unary(bytes: &mut [u8], t: u8)
     }
 }
 
-/// Clears the bits after the first `len`. Does not allocate. Requires exactly the bytes that `len` bits need.
+/// Clears the bits after the first `len`. Does not allocate. Requires that `bytes` has exactly the bytes that `len`
+/// bits need.
 pub fn clear_padding(bytes: &mut [u8], len: usize)
     requires exact { length bytes.old ≡ (len + 7) / 8 }
     ensures canonical { IsCanonical bytes.new len }

@@ -11,9 +11,10 @@ use std::alloc::{AllocError, Global};
 /// The number of bytes that are copied before their outputs are computed: few enough to stay in the first-level cache.
 const BLOCK: usize = 4096;
 
-/// Returns the bytes of the outputs of table `t` for the first `len` bits of `left` and `right`: exactly the bytes that
-/// `len` bits need, with padding bits false. Allocates once. Requires that `left` and `right` have at least `len` bits
-/// each.
+/// Returns the bytes of the outputs of the truth table `t` for the first `len` bits of `left` and `right`: bit
+/// `a + 2 * b` of `t`, where `a` and `b` are the bits of `left` and `right` at the same index, as 0 or 1. Reads only
+/// the four lowest bits of `t`. The result has exactly the bytes that `len` bits need, with padding bits false.
+/// Allocates at most once. Requires that `left` and `right` have at least `len` bits each.
 ///
 /// # Errors
 ///
@@ -38,8 +39,9 @@ pub fn map_binary(
     Ok(bytes)
 }
 
-/// Returns the bytes of the outputs of table `t`, of one input, for the first `len` bits of `list`: exactly the bytes
-/// that `len` bits need, with padding bits false. Allocates once. Requires that `list` has at least `len` bits.
+/// Returns the bytes of the outputs of the truth table `t` for the first `len` bits of `list`: bit `a` of `t`, where
+/// `a` is the bit as 0 or 1. Reads only the two lowest bits of `t`. The result has exactly the bytes that `len` bits
+/// need, with padding bits false. Allocates at most once. Requires that `list` has at least `len` bits.
 ///
 /// # Errors
 ///

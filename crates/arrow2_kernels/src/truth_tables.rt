@@ -6,7 +6,7 @@ ghost use Rattle.arrow2_model.specs.Tables.{answer};
 
 use arrow2_chunk::BitChunk;
 
-/// Returns the outputs of a table of one input, bit by bit.
+/// Returns, bit by bit, the outputs of a table of one input: bit `a` of `table`, where `a` is the bit of `x` as 0 or 1.
 pub fn unary_outputs<T: BitChunk>(table: u16, x: T) -> T
     ensures results { (i : ℕ) → i < T.WIDTH →
         bit (T.number result) i ≡ answer table (bit (T.number x) i ∷ []) }
@@ -16,7 +16,8 @@ pub fn unary_outputs<T: BitChunk>(table: u16, x: T) -> T
     select(x, yes, no)
 }
 
-/// Returns the outputs of a table of two inputs, bit by bit.
+/// Returns, bit by bit, the outputs of a table of two inputs: bit `a + 2 * b` of `table`, where `a` and `b` are the
+/// bits of `x` and `y` as 0 or 1.
 pub fn binary_outputs<T: BitChunk>(table: u16, x: T, y: T) -> T
     ensures results { (i : ℕ) → i < T.WIDTH →
         bit (T.number result) i
@@ -27,7 +28,8 @@ pub fn binary_outputs<T: BitChunk>(table: u16, x: T, y: T) -> T
     select(y, yes, no)
 }
 
-/// Returns the outputs of a table of three inputs, bit by bit.
+/// Returns, bit by bit, the outputs of a table of three inputs: bit `a + 2 * b + 4 * c` of `table`, where `a`, `b` and
+/// `c` are the bits of `x`, `y` and `z` as 0 or 1.
 pub fn ternary_outputs<T: BitChunk>(table: u16, x: T, y: T, z: T) -> T
     ensures results { (i : ℕ) → i < T.WIDTH →
         bit (T.number result) i
@@ -39,7 +41,8 @@ pub fn ternary_outputs<T: BitChunk>(table: u16, x: T, y: T, z: T) -> T
     select(z, yes, no)
 }
 
-/// Returns the outputs of a table of four inputs, bit by bit.
+/// Returns, bit by bit, the outputs of a table of four inputs: bit `a + 2 * b + 4 * c + 8 * d` of `table`, where `a` to
+/// `d` are the bits of `x`, `y`, `z` and `v` as 0 or 1.
 pub fn quaternary_outputs<T: BitChunk>(table: u16, x: T, y: T, z: T, v: T) -> T
     ensures results { (i : ℕ) → i < T.WIDTH →
         bit (T.number result) i

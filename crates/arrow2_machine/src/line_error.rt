@@ -64,7 +64,7 @@ impl From<AllocError> for CommandError {
     }
 }
 
-/// The value that could not be stored is dropped.
+/// Returns `OutOfMemory`, and drops the value that could not be stored.
 impl<T: Drop> From<AllocFailed<T>> for CommandError {
     ghost use Rattle.arrow2_machine.specs.declared.line_error.CommandError.TheVariants.{OutOfMemory};
 

@@ -62,8 +62,8 @@ impl Machine {
         }
     }
 
-    /// Runs one line, and appends its reply and a line end. A line that is rejected changes no slot; its reply states
-    /// why it is rejected.
+    /// Runs one line, given without its line end, and appends its reply and a line end. A line that is rejected changes
+    /// no slot; its reply states why it is rejected.
     ///
     /// # Errors
     ///
@@ -93,7 +93,8 @@ impl Machine {
     }
 }
 
-/// Returns the replies to the lines of a script.
+/// Runs the lines of a script in order, on slots that hold nothing at first. Returns their replies, each followed by a
+/// line end.
 ///
 /// # Errors
 ///

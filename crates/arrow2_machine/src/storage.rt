@@ -41,7 +41,7 @@ impl Slot {
     ///
     /// # Errors
     ///
-    /// `Range` or `OutOfMemory`.
+    /// `Range` where these bits are not inside the bytes, or `OutOfMemory`.
     fn with_stored(
         alloc: Global,
         bytes: HexText<'_>,

@@ -6,9 +6,9 @@ use crate::packing::word_of;
 use arrow2_chunk::BitChunk;
 use std::alloc::{AllocError, Global};
 
-/// Returns the bytes of the results of `f` for each number below `len`. The bits after these are unspecified, and so is
-/// the number of spare bytes. Allocates once, before it calls `f`. Requires that `f` may be called with each of these
-/// numbers.
+/// Packs the results of `f` into bytes: bit `k` is the result of `f(k)`, for each `k` below `len`. The bits after these
+/// `len` bits are unspecified, and so is the number of spare bytes. Allocates once, before it calls `f`. Requires that
+/// `f` may be called with each number below `len`.
 ///
 /// # Errors
 ///

@@ -125,7 +125,8 @@ impl PackedBits {
         self.bytes.as_slice()
     }
 
-    /// Returns the bytes of the items, and the number of items that they hold.
+    /// Returns the bytes of the items, as [`PackedBits::as_slice`] does, and the number of items. The capacity stays.
+    /// Does not allocate.
     pub fn into_parts(self) -> (Vec<u8>, usize)
         ensures bytes { result.0.items ≡ canonical_bytes self.items }
         ensures items { take result.1 (bits result.0.items) ≡ self.items }
@@ -137,7 +138,7 @@ impl PackedBits {
         (bytes, length)
     }
 
-    /// Reserves capacity for `additional` more items.
+    /// Reserves capacity for `additional` more items. Within the capacity it does not allocate.
     ///
     /// # Errors
     ///
@@ -316,9 +317,10 @@ impl PackedBits {
         *byte = set(*byte, index % 8, value);
     }
 
-    /// Replaces each word of the items by the result of `op` for this word and the row of words at its index. Does not
-    /// allocate. Requires that each list of `rows` has the same length as this list, and that `op` accepts every word
-    /// and row.
+    /// Replaces each word of the items by the result of `op` for this word and the row of words at its index. Where
+    /// fewer items are left for the last words, `op` gets these words padded with false. Does not allocate. Requires
+    /// that each list of `rows` has as many items still to come as this list has items, and that `op` accepts every
+    /// word and row.
     pub fn assign_rows<T: BitChunk, S: WordRows<T>, F: Fn(T, S::Row) -> T>(
         &mut self,
         rows: S,
@@ -349,7 +351,8 @@ impl PackedBits {
         assign_rows(self.bytes.as_mut_slice(), self.length, rows, op);
     }
 
-    /// Replaces each item by the output of table `t` for this item and the bit of `other` at its index, 32 bytes at a
+    /// Replaces each item by the output of the truth table `t`: bit `a + 2 * b` of `t`, where `a` is this item and `b`
+    /// is the bit of `other` at its index, as 0 or 1. Reads only the four lowest bits of `t`. Processes 32 bytes at a
     /// time. Does not allocate. Requires that `other` has at least one bit for each item.
     pub fn apply_binary_table(&mut self, other: &[u8], t: u8)
         requires inside { length self.old.items ≤ 8 * length other.now }
@@ -360,8 +363,8 @@ impl PackedBits {
         assign_binary(self.bytes.as_mut_slice(), other, self.length, t);
     }
 
-    /// Replaces each item by the output of table `t`, of one input, for this item, 32 bytes at a time. Does not
-    /// allocate.
+    /// Replaces each item by the output of the truth table `t`: bit `a` of `t`, where `a` is this item as 0 or 1. Reads
+    /// only the two lowest bits of `t`. Processes 32 bytes at a time. Does not allocate.
     pub fn apply_unary_table(&mut self, t: u8)
         ensures items { self.new.items ≡ each t (self.old.items ∷ []) }
         ensures capacity { self.new.capacity ≡ self.old.capacity }

@@ -13,7 +13,8 @@ use std::alloc::{AllocError, Global};
 use std::simd::prelude::*;
 
 /// Packs the items of an iterator. Returns the bytes and the number of items. The bits after the items are unspecified,
-/// and so is the number of spare bytes. Requires that the iterator ends, and that its `next` may be called until then.
+/// and so is the number of spare bytes. Allocates while it reads the items. Requires that the iterator ends, and that
+/// its `next` may be called a first time. (By std's contract of `next`, it may then be called again after each item.)
 /// Does not read the size hint.
 ///
 /// # Errors
@@ -74,8 +75,8 @@ fn fill<I: Iterator<Item = bool>>(items: &mut I, block: &mut [bool; 64]) -> usiz
     64
 }
 
-/// Returns the bytes of the items. In the code the bits after the items are false, and they are in at most eight bytes;
-/// no clause states either. Allocates once.
+/// Returns the bytes of the items. After the items there are at most 64 bits, all of them false; no clause states this.
+/// Allocates once.
 ///
 /// # Errors
 ///
@@ -94,7 +95,7 @@ pub fn pack_bits(alloc: Global, items: &[bool]) -> Result<Vec<u8>, AllocError>
     Ok(bytes)
 }
 
-/// Returns the word of 64 items. Computes it by one comparison of 64 lanes.
+/// Returns the word of 64 items, the first item as its lowest bit. Computes it by one comparison of 64 lanes.
 pub fn word_of(items: &[bool; 64]) -> u64
     ensures { result ≡ num items.now }
 {

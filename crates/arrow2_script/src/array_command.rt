@@ -9,7 +9,7 @@ use crate::words::SlotIndex;
 /// A command on boolean arrays.
 #[derive(Drop)]
 pub enum ArrayCommand {
-    /// `anew d v m`: slot d holds a boolean array. Its values are the frozen bitmap of slot v, its validity is the
+    /// `anew d v m`: slot d holds a boolean array. Its values are the frozen bitmap of slot v, and its validity is the
     /// frozen bitmap of slot m. Where m is `-`, no item is null.
     New(SlotIndex, SlotIndex, Option<SlotIndex>),
     /// `alist s`: the items of the boolean array of slot s as a text.
@@ -18,11 +18,9 @@ pub enum ArrayCommand {
     Nulls(SlotIndex),
     /// `aslice s i n`: the boolean array of slot s is cut to its n items from item i on.
     Slice(SlotIndex, u64, u64),
-    /// `aand d a b`: slot d holds the boolean array that is AND of the boolean arrays of slots a and b, item by item,
-    /// by Kleene's logic.
+    /// `aand d a b`: slot d holds the AND of the boolean arrays of slots a and b, item by item, by Kleene's logic.
     And(SlotIndex, SlotIndex, SlotIndex),
-    /// `aor d a b`: slot d holds the boolean array that is OR of the boolean arrays of slots a and b, item by item, by
-    /// Kleene's logic.
+    /// `aor d a b`: slot d holds the OR of the boolean arrays of slots a and b, item by item, by Kleene's logic.
     Or(SlotIndex, SlotIndex, SlotIndex),
 }
 

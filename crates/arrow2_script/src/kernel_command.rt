@@ -24,9 +24,9 @@ pub enum KernelCommand {
 pub enum Kernel {
     /// Item by item, whether both are true.
     And(SlotIndex, SlotIndex),
-    /// Item by item, whether one is true, or both.
+    /// Item by item, whether at least one is true.
     Or(SlotIndex, SlotIndex),
-    /// Item by item, whether one is true, and not both.
+    /// Item by item, whether exactly one is true.
     Xor(SlotIndex, SlotIndex),
     /// Item by item, whether the item is false.
     Not(SlotIndex),

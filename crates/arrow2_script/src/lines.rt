@@ -21,8 +21,8 @@ fn cut_at(bytes: &[u8], byte: u8) -> (&[u8], Option<&[u8]>)
     (before, Some(&rest[1..]))
 }
 
-/// Returns the first line of a script, without its line end, and the rest of the script after it. Requires that the
-/// script is not empty.
+/// Returns the first line of a script, without its line end, and the rest of the script after that line end, which is
+/// empty if there is no line end. Only `\n` ends a line. Requires that the script is not empty.
 #[tactic(auto, using(crate::proofs::LineLemmas::cutting))]
 pub fn next_line(script: &[u8]) -> (&[u8], &[u8])
     requires { 0 < length script.now }
@@ -39,7 +39,8 @@ pub fn next_line(script: &[u8]) -> (&[u8], &[u8])
     }
 }
 
-/// An iterator over the parts of some bytes between the occurrences of one byte. Parts may be empty.
+/// An iterator over the parts of some bytes between the occurrences of one byte, as Rust's `split` returns them: parts
+/// may be empty, and an empty slice has one part, which is empty.
 #[derive(Drop)]
 pub struct Parts<'a> {
     byte: u8,

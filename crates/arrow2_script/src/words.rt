@@ -204,7 +204,7 @@ impl<'a> BitText<'a> {
     }
 }
 
-/// Items: `-` for none, or bytes `0` and `1`.
+/// Items: `-` for none, or a byte `0` or `1` for each item.
 impl<'a> Word<'a> for BitText<'a> {
     ghost parsed = { bits_of };
 

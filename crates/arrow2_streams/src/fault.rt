@@ -44,7 +44,7 @@ impl From<AllocError> for ReplayFault {
     }
 }
 
-/// The value that could not be stored is dropped.
+/// Returns `Memory`, and drops the value that could not be stored.
 impl<T: Drop> From<AllocFailed<T>> for ReplayFault {
     ghost use Rattle.arrow2_streams.specs.declared.fault.ReplayFault.TheVariants.{Memory};
 
@@ -55,8 +55,8 @@ impl<T: Drop> From<AllocFailed<T>> for ReplayFault {
     }
 }
 
-/// Returns the exit status of a program after a replay. Prints a fault to standard error, as one line, and ignores an
-/// error of that print. No clause states the printed text: tests show it.
+/// Returns the exit status of a program after a replay: `SUCCESS`, or `FAILURE` after a fault. Prints a fault to
+/// standard error, as one line, and ignores an error of that print. No clause states the printed text: tests show it.
 pub fn exit_code<R: Eprint>(rt: &R, outcome: Result<(), ReplayFault>) -> ExitCode
     ensures { MatchResult outcome (λ _. result ≡ ExitCode.SUCCESS) (λ _. result ≡ ExitCode.FAILURE) }
 {

@@ -1,4 +1,5 @@
-//! Reads a reader to its end, and writes a whole text. Failed calls are counted by numbers that only contracts see.
+//! Reads a reader to its end, and writes all bytes of a slice. Failed calls are counted by numbers that only contracts
+//! see.
 #![tactic(auto)]
 
 pub mod fault;

@@ -1,4 +1,4 @@
-//! Reading all of a reader, and writing all of a text.
+//! Reading all of a reader, and writing all of a slice.
 ghost use Rattle.std.specs.Prelude.{◌≡◌, ◌≢◌, ◌<◌, ◌↔◌, ℕ, length, take, IfOk, IfErr, OnOk, IsErrOf, vec_len};
 ghost use Rattle.std.specs.Io.KnownBytes.{Appends, Consumes, IsAtEnd};
 ghost use Rattle.arrow2_streams.specs.Watching.{FailsOnce};
@@ -18,11 +18,13 @@ fn zeros(alloc: Global, len: usize) -> Result<Vec<u8>, AllocError>
     vec![in alloc; 0u8; len]
 }
 
-/// Returns all the bytes that the reader has left.
+/// Reads all the bytes that the reader has left, and returns them. Takes every error as a failure: it does not retry on
+/// `Interrupted`, as Rust's `read_to_end` does.
 ///
 /// # Errors
 ///
-/// `Read` exactly where a call of the reader failed. `Memory` where an allocation failed.
+/// `Read` exactly where a call of the reader failed. `Memory` where an allocation failed. After either error, the bytes
+/// that were read are lost.
 pub fn read_all<R: Read>(alloc: Global, reader: &mut Watched<R>) -> Result<Vec<u8>, ReplayFault>
     ensures bytes { IfOk result (λ v.
         Consumes (R.remaining reader.old.inner) (R.remaining reader.new.inner) v.items) }
@@ -61,7 +63,7 @@ fn read_through<R: Read>(
     }
 }
 
-/// Writes all of the bytes, and flushes.
+/// Writes all of the bytes, and flushes. Does not retry on `Interrupted`, as Rust's `write_all` does.
 ///
 /// # Errors
 ///

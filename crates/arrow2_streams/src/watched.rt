@@ -11,7 +11,7 @@ use std::marker::Model;
 
 /// A reader or a writer with two counts: of its failed calls, and of its writes since the last successful flush.
 ///
-/// A call fails if it returns an error. A write also fails if it takes 0 bytes of a text that is not empty. Only
+/// A call fails if it returns an error. A write also fails if it takes 0 bytes of a slice that is not empty. Only
 /// contracts see the counts: at run time they have size 0.
 #[derive(Drop)]
 pub struct Watched<T> {

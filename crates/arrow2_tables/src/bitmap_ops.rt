@@ -12,16 +12,19 @@ use arrow2_kernels::truth_tables::{quaternary_outputs, ternary_outputs};
 use arrow2_kernels::{OneList, Pair, ZipRows};
 use arrow2_types::{Error, Result};
 
-/// Returns the bitmap of the results of `op` for the three words of 64 items at each index. The last words are padded
-/// with false. Requires that the bitmaps have equal lengths, and that the `requires` of `op` holds for every three
-/// words.
+/// Reads the items of the three bitmaps as words of 64 bits, the last ones padded with false, applies `op` to the three
+/// words at each index, and returns the bits of the results, cut to the length of the bitmaps. The first item of a word
+/// is its lowest bit. Requires equal lengths, and that the `requires` of `op` holds for any three words, not only for
+/// those of the bitmaps.
 ///
 /// For any `op` the clauses state that the items are the bits of result words, and that each result word is one that
 /// the contract of `op` allows for the input words at its index. If the contract of `op` determines each result word
 /// (as a function of the input words, or by one truth table for all bits), the clauses determine each item.
 ///
-/// Differs from arrow2: the padding bits of the words count as false. `op` is not called for words that hold no item;
-/// no clause states this. arrow2's call returns no `Result`.
+/// Differs from arrow2: the padding bits of the words count as false. Where no items follow the last full word, arrow2
+/// calls `op` once more, and the code here does not; no clause states this. arrow2's `ternary` returns no `Result`.
+///
+/// The new bitmap is stored in canonical bytes, from bit 0 on.
 ///
 /// # Errors
 ///
@@ -72,16 +75,19 @@ pub fn ternary<F: Fn(u64, u64, u64) -> u64>(
     from_rows(a1.allocator(), a1.len(), three, |((x, y), z)| op(x, y, z))
 }
 
-/// Returns the bitmap of the results of `op` for the four words of 64 items at each index. The last words are padded
-/// with false. Requires that the bitmaps have equal lengths, and that the `requires` of `op` holds for every four
-/// words.
+/// Reads the items of the four bitmaps as words of 64 bits, the last ones padded with false, applies `op` to the four
+/// words at each index, and returns the bits of the results, cut to the length of the bitmaps. The first item of a word
+/// is its lowest bit. Requires equal lengths, and that the `requires` of `op` holds for any four words, not only for
+/// those of the bitmaps.
 ///
 /// For any `op` the clauses state that the items are the bits of result words, and that each result word is one that
 /// the contract of `op` allows for the input words at its index. If the contract of `op` determines each result word
 /// (as a function of the input words, or by one truth table for all bits), the clauses determine each item.
 ///
-/// Differs from arrow2: the padding bits of the words count as false. `op` is not called for words that hold no item;
-/// no clause states this. arrow2's call returns no `Result`.
+/// Differs from arrow2: the padding bits of the words count as false. Where no items follow the last full word, arrow2
+/// calls `op` once more, and the code here does not; no clause states this. arrow2's `quaternary` returns no `Result`.
+///
+/// The new bitmap is stored in canonical bytes, from bit 0 on.
 ///
 /// # Errors
 ///
@@ -145,6 +151,8 @@ fn pair<'a>(left: &'a Bitmap, right: &'a Bitmap) -> Pair<'a>
 /// Returns, item by item, the output of the truth table `t`: bit `a + 2 * b + 4 * c` of `t`, where `a`, `b` and `c` are
 /// the items of `a1`, `a2` and `a3` as 0 or 1. Requires that all have equal lengths.
 ///
+/// The new bitmap is stored in canonical bytes, from bit 0 on.
+///
 /// arrow2 has no such call.
 ///
 /// # Errors
@@ -164,6 +172,8 @@ pub fn ternary_table(a1: &Bitmap, a2: &Bitmap, a3: &Bitmap, t: u8) -> Result<Bit
 
 /// Returns, item by item, the output of the truth table `t`: bit `a + 2 * b + 4 * c + 8 * d` of `t`, where `a` to `d`
 /// are the items of `a1` to `a4` as 0 or 1. Requires that all have equal lengths.
+///
+/// The new bitmap is stored in canonical bytes, from bit 0 on.
 ///
 /// arrow2 has no such call.
 ///

@@ -1,4 +1,4 @@
-//! The errors of a call of the layer.
+//! The errors that the layer's calls return.
 ghost use Rattle.std.specs.Prelude.{◌≡◌, Some};
 ghost use Rattle.arrow2_types.specs.declared.error.Error.TheVariants.{OutOfMemory, Io};
 
@@ -53,8 +53,8 @@ impl Error {
         }
     }
 
-    /// Returns the same as [`Error::from_external_error`], `OutOfMemory` too, for std's error of bytes that are not
-    /// UTF-8.
+    /// Returns the same as [`Error::from_external_error`], including `OutOfMemory`, for std's error of bytes that are
+    /// not UTF-8.
     pub fn from_utf8_error(alloc: Global, error: Utf8Error) -> Error
         ensures { WrapsText result (λ text.
             IfSome (⟦<Utf8Error as fmt::Display>⟧.output error) (λ printed. text ≡ printed)) }
@@ -62,7 +62,7 @@ impl Error {
         Error::from_external_error::<Utf8Error>(alloc, &error)
     }
 
-    /// Returns the same as [`Error::from_external_error`], `OutOfMemory` too, for the error of std's
+    /// Returns the same as [`Error::from_external_error`], including `OutOfMemory`, for the error of std's
     /// `String::from_utf8`. Drops the bytes that this error holds.
     pub fn from_string_utf8_error(alloc: Global, error: FromUtf8Error) -> Error
         ensures { WrapsText result (λ text.
@@ -71,7 +71,7 @@ impl Error {
         Error::from_external_error::<FromUtf8Error>(alloc, &error)
     }
 
-    /// Returns the same as [`Error::from_external_error`], `OutOfMemory` too, for the error of simdutf8's UTF-8
+    /// Returns the same as [`Error::from_external_error`], including `OutOfMemory`, for the error of simdutf8's UTF-8
     /// validation.
     pub fn from_basic_utf8_error(alloc: Global, error: simdutf8::basic::Utf8Error) -> Error
         ensures { WrapsText result (λ text. text ≡ codes "invalid utf-8 sequence") }

@@ -49,16 +49,16 @@ pub fn try_check_offsets_bounds<O: Offset>(
 
 /// Tests that the values of each slot, from its offset to the next, are UTF-8. Does not allocate.
 ///
-/// Values outside the offsets are not tested. First all values between the first offset and the last are tested at
-/// once. Then, unless all of them are ASCII, it is tested that no offset splits a character. If one of the two tests
-/// fails, the values are tested again, slot by slot, up to the first slot that is not UTF-8.
+/// Does not test values outside the offsets. First tests all values between the first offset and the last at once.
+/// Then, unless all of them are ASCII, tests that no offset splits a character. If one of the two tests fails, tests
+/// the values again, slot by slot, up to the first slot that is not UTF-8.
 ///
 /// Differs from arrow2, whose error has a text, and names no slot.
 ///
 /// # Errors
 ///
-/// `PastTheValues` exactly where the last offset is above the number of values. Otherwise `NotUtf8`, with the first
-/// slot whose values are not UTF-8, exactly where there is such a slot.
+/// `PastTheValues` exactly where the last offset is above the number of bytes in `values`. Otherwise `NotUtf8`, with
+/// the first slot whose values are not UTF-8, exactly where there is such a slot.
 pub fn try_check_utf8<O: Offset>(
     offsets: &OffsetsBuffer<O>,
     values: &[u8],
@@ -77,8 +77,8 @@ pub fn try_check_utf8<O: Offset>(
 ///
 /// # Errors
 ///
-/// `Offsets`, with the rule that the numbers break, exactly where they are not offsets. Otherwise `Texts`, with the
-/// error of [`try_check_utf8`], exactly where that call returns one.
+/// `Offsets`, with the first rule that the numbers break, exactly where they are not offsets. Otherwise `Texts`, with
+/// the error of [`try_check_utf8`], exactly where that call returns one.
 pub fn try_check_offsets_and_utf8<O: Offset>(
     offsets: &[O],
     values: &[u8],

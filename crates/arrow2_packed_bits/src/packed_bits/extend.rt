@@ -14,8 +14,8 @@ use std::alloc::AllocError;
 
 #[tactic(auto, using(crate::proofs::Whole::extending))]
 impl PackedBits {
-    /// Appends the `count` bits of `slice` from bit `offset` on. Requires that these bits are inside `slice`. It
-    /// allocates at most once, before it writes.
+    /// Appends the `count` bits of `slice` from bit `offset` on. Requires that these bits are inside `slice`. Within
+    /// the capacity it does not allocate, else it allocates once, before it writes.
     ///
     /// # Errors
     ///
@@ -38,7 +38,8 @@ impl PackedBits {
         Ok(())
     }
 
-    /// Appends the items of a slice. It allocates at most once, before it writes.
+    /// Appends the items of a slice. Within the capacity it does not allocate, else it allocates once, before it
+    /// writes.
     ///
     /// # Errors
     ///
@@ -52,7 +53,8 @@ impl PackedBits {
         Ok(())
     }
 
-    /// Appends `value` `additional` times. It allocates at most once, before it writes.
+    /// Appends `additional` items, each of them `value`. Within the capacity it does not allocate, else it allocates
+    /// once, before it writes.
     ///
     /// # Errors
     ///
