@@ -11,10 +11,10 @@ use arrow2_chunk::BitChunk;
 use std::convert::AsSlice;
 
 /// Replaces each word of the first `len` bits by the result of `op` for this word and the row of words at its index.
-/// Where fewer bits are left for the last words, `op` gets these words padded with false. Padding bits of `bytes` are
-/// false afterwards, whatever they were before and whatever `op` returns for them. Does not allocate. Requires that
-/// `bytes` has exactly the bytes that `len` bits need, that each list of `rows` has `len` items still to come, and that
-/// `op` accepts every word and row.
+/// The first item of a word is its lowest bit. Where fewer bits are left for the last words, `op` gets these words
+/// padded with false. Padding bits of `bytes` are false afterwards, whatever they were before and whatever `op` returns
+/// for them. Does not allocate. Requires that `bytes` has exactly the bytes that `len` bits need, that each list of
+/// `rows` has `len` items still to come, and that `op` accepts every word and row.
 pub fn assign_rows<T: BitChunk, S: WordRows<T>, F: Fn(T, S::Row) -> T>(
     bytes: &mut [u8],
     len: usize,
@@ -32,7 +32,8 @@ pub fn assign_rows<T: BitChunk, S: WordRows<T>, F: Fn(T, S::Row) -> T>(
         ComputesOwnRows T.WIDTH S.words T.number (F.post op) f →
         take len (bits bytes.new)
         ≡ own_kernel T.WIDTH f (take len (bits bytes.old)) (S.row_at rows) len }
-    // For any `op`: the word at each index is one that `op` may return for the words at this index.
+    // For any `op`: the word at each index is one that `op` may return for a word and a row with the words at this
+    // index.
     ensures results { AreJoinedResults T.WIDTH len (λ j. MayReturnOwn T.WIDTH S.words T.number (F.post op)
         (word T.WIDTH (take len (bits bytes.old)) j) (S.row_at rows j)) (take len (bits bytes.new)) }
 {

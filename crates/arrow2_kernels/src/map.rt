@@ -12,10 +12,10 @@ use crate::rows::WordRows;
 use arrow2_bits::bytes_for;
 use std::alloc::{AllocError, Global};
 
-/// Overwrites `bytes` with the results of `op` for each row of words of 64 bits, from bit 0 on. Where fewer items are
-/// left for the last row, `op` gets its words padded with false. Padding bits of `bytes` are false afterwards. Does not
-/// allocate. Requires that `bytes` has exactly the bytes that `len` bits need, that each list of `rows` has `len` items
-/// still to come, and that `op` accepts every row.
+/// Overwrites `bytes` with the results of `op` for each row of words of 64 bits, from bit 0 on. The first item of a
+/// word is its lowest bit. Where fewer items are left for the last row, `op` gets its words padded with false. Padding
+/// bits of `bytes` are false afterwards. Does not allocate. Requires that `bytes` has exactly the bytes that `len` bits
+/// need, that each list of `rows` has `len` items still to come, and that `op` accepts every row.
 pub fn write_rows<S: WordRows<u64>, F: Fn(S::Row) -> u64>(
     bytes: &mut [u8],
     len: usize,
@@ -32,7 +32,8 @@ pub fn write_rows<S: WordRows<u64>, F: Fn(S::Row) -> u64>(
     // If the results of `op` are those of a mathematical function `f` on words:
     ensures items { (f : List ℕ → ℕ) → ComputesRows 64 S.words (λ x. x) (F.post op) f →
         take len (bits bytes.new) ≡ bits_of_words 64 (λ j. f (S.row_at rows j)) len }
-    // For every truth table `t` by which `op` computes each bit: the items are the outputs of `t`.
+    // If `op` computes each bit by a truth table `t`, and `lists` are lists whose words are those of the rows: the
+    // items are the outputs of `t` for the items of `lists`.
     ensures table { (t : ℕ) (lists : List (List Bool)) →
         IsBitwiseOnRows 64 S.words (λ x. x) (F.post op) t → AreRowsOf 64 lists (S.row_at rows) len →
         take len (bits bytes.new) ≡ each t lists }
@@ -45,9 +46,9 @@ pub fn write_rows<S: WordRows<u64>, F: Fn(S::Row) -> u64>(
 }
 
 /// Returns the bytes of the results of `op` for each row of words of 64 bits: exactly the bytes that `len` bits need,
-/// with padding bits false. Where fewer items are left for the last row, `op` gets its words padded with false.
-/// Allocates at most once. Requires that each list of `rows` has `len` items still to come, and that `op` accepts every
-/// row.
+/// with padding bits false. The first item of a word is its lowest bit. Where fewer items are left for the last row,
+/// `op` gets its words padded with false. Allocates at most once. Requires that each list of `rows` has `len` items
+/// still to come, and that `op` accepts every row. The clauses are those of [`write_rows`], but for `table`.
 ///
 /// # Errors
 ///

@@ -79,8 +79,8 @@ impl PackedBits {
         Ok(PackedBits { bytes, length: 0 })
     }
 
-    /// Returns the first `len` bits of the bytes. Cuts spare bytes and clears padding bits, in place; the capacity of
-    /// the vector stays. Requires that `len` is at most eight times the number of bytes. Does not allocate.
+    /// Returns the list of the first `len` bits of the bytes. Cuts spare bytes and clears padding bits, in place; the
+    /// capacity of the vector stays. Requires that `len` is at most eight times the number of bytes. Does not allocate.
     pub fn from_vec(bytes: Vec<u8>, len: usize) -> PackedBits
         requires inside { len ≤ 8 * vec_len bytes }
         ensures items { result.items ≡ take len (bits bytes.items) }
@@ -99,7 +99,8 @@ impl PackedBits {
         self.length
     }
 
-    /// Returns the capacity in items, at most `usize::MAX`.
+    /// Returns the capacity in items: eight times that of the vector of bytes, or `usize::MAX` where that is more. It
+    /// is at least the number of items.
     pub fn capacity(&self) -> usize
         ensures capacity { result ≡ self.now.capacity }
         ensures within_capacity { length self.now.items ≤ result }
@@ -109,7 +110,8 @@ impl PackedBits {
         self.bytes.capacity().saturating_mul(8)
     }
 
-    /// Returns the allocator of the bytes.
+    /// Returns the allocator of the bytes. Contracts do not tell two values of `Global` apart, so the clause states
+    /// that the result is equal to each of them.
     pub fn allocator(&self) -> Global
         ensures { (other : Global) → result ≡ other }
     {
@@ -177,7 +179,7 @@ impl PackedBits {
     }
 
     /// Frees all capacity where there is no item. Else frees unused capacity if the allocator can; no clause states
-    /// that any is freed.
+    /// that any is freed. The items stay.
     pub fn shrink_to_fit(&mut self)
         ensures items { self.new.items ≡ self.old.items }
         ensures capacity { self.new.capacity ≤ self.old.capacity }
@@ -330,17 +332,20 @@ impl PackedBits {
         requires callable { F.IsAlwaysCallable op }
         requires same_lengths { S.same_lengths rows }
         requires len { S.len rows ≡ length self.old.items }
-        // If the results of `op` are those of a function `f` of the own word and a row:
+        // If the results of `op` are those of a mathematical function `f` of the own word and the words of a row, and
+        // `xss` are lists whose words are those of the rows:
         ensures kernel { (f : List ℕ → ℕ) (xss : List (List Bool)) →
             ComputesOwnRows T.WIDTH S.words T.number (F.post op) f →
             AreWordsOf T.WIDTH xss (S.row_at rows) →
             self.new.items ≡ kernel T.WIDTH f (self.old.items ∷ xss) }
-        // For every truth table `t` by which `op` computes each bit: the items are the outputs of `t`.
+        // If `op` computes each bit by a truth table `t`, and `xss` are such lists: the items are the outputs of `t`
+        // for the old items and the items of `xss`.
         ensures table { (t : ℕ) (xss : List (List Bool)) →
             IsBitwiseOnOwnRows T.WIDTH S.words T.number (F.post op) t →
             AreWordsOf T.WIDTH xss (S.row_at rows) →
             self.new.items ≡ each t (self.old.items ∷ xss) }
-        // For any `op`: the word at each index is one that `op` may return for the words at this index.
+        // For any `op`: the word at each index is one that `op` may return for a word and a row with the words at this
+        // index.
         ensures results { AreJoinedResults T.WIDTH (length self.old.items)
             (λ j. MayReturnOwn T.WIDTH S.words T.number (F.post op)
             (word T.WIDTH self.old.items j) (S.row_at rows j)) self.new.items }

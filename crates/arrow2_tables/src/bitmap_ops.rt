@@ -17,9 +17,9 @@ use arrow2_types::{Error, Result};
 /// is its lowest bit. Requires equal lengths, and that the `requires` of `op` holds for any three words, not only for
 /// those of the bitmaps.
 ///
-/// For any `op` the clauses state that the items are the bits of result words, and that each result word is one that
-/// the contract of `op` allows for the input words at its index. If the contract of `op` determines each result word
-/// (as a function of the input words, or by one truth table for all bits), the clauses determine each item.
+/// The clauses determine each item where the contract of `op` determines its result, as a function of the words or by
+/// one truth table for all bits. For any other `op` they state only that each word of the result is one that the
+/// contract of `op` allows for the words at its index.
 ///
 /// Differs from arrow2: the padding bits of the words count as false. Where no items follow the last full word, arrow2
 /// calls `op` once more, and the code here does not; no clause states this. arrow2's `ternary` returns no `Result`.
@@ -80,9 +80,9 @@ pub fn ternary<F: Fn(u64, u64, u64) -> u64>(
 /// is its lowest bit. Requires equal lengths, and that the `requires` of `op` holds for any four words, not only for
 /// those of the bitmaps.
 ///
-/// For any `op` the clauses state that the items are the bits of result words, and that each result word is one that
-/// the contract of `op` allows for the input words at its index. If the contract of `op` determines each result word
-/// (as a function of the input words, or by one truth table for all bits), the clauses determine each item.
+/// The clauses determine each item where the contract of `op` determines its result, as a function of the words or by
+/// one truth table for all bits. For any other `op` they state only that each word of the result is one that the
+/// contract of `op` allows for the words at its index.
 ///
 /// Differs from arrow2: the padding bits of the words count as false. Where no items follow the last full word, arrow2
 /// calls `op` once more, and the code here does not; no clause states this. arrow2's `quaternary` returns no `Result`.
