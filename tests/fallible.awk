@@ -2,6 +2,7 @@
 # the head of an `impl` of a trait. The documentation of a call that never allocates says "Does not allocate.", with no
 # condition after it. Prints the derived `Clone` of a type that has no parameter and is not `Copy` too.
 # With `words`, the calls alone whose documentation has them.
+# Calls of arrays of byte strings alone, and of texts alone, have the names of the aliases: `BinaryArray::from_slice`.
 # Comparisons of byte strings, of texts and of booleans have the names of those of numbers: each is printed after its
 # module, as `binary::eq`.
 FNR == 1 {
@@ -21,6 +22,8 @@ FNR == 1 {
     sub(/^impl(<([^<>]|<[^<>]*>)*>)? /, "", owner)
     sub(/ *\{$/, "", owner)
     type = owner
+    sub(/GenericByteArray<BinaryType,/, "BinaryArray<", type)
+    sub(/GenericByteArray<Utf8Type,/, "Utf8Array<", type)
     sub(/<.*/, "", type)
 }
 /^}/ { owner = "" }

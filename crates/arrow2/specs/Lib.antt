@@ -54,4 +54,4 @@ pub use Rattle.arrow2_numeric.specs.Pairs
 pub use Rattle.arrow2_compute.specs.Sizes
 pub use Rattle.arrow2_compute.specs.Take
 pub use Rattle.arrow2_text.specs.Binary
-pub use Rattle.arrow2_text.specs.AllTexts
+pub use Rattle.arrow2_text.specs.Values

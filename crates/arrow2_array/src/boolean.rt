@@ -1,5 +1,5 @@
 //! An array of nullable booleans.
-ghost use Rattle.std.specs.Prelude.{◌≡◌, ◌+◌, ◌≤◌, ◌<◌, ◌↔◌, [], ◌∷◌, Bool, Option, Some, None, length, map, slice_index_or, option_map, OnOk, IsOk, IsNone, IfOk, IfErr, IfSome, IsTrue, MatchOption};
+ghost use Rattle.std.specs.Prelude.{◌≡◌, ◌+◌, ◌≤◌, ◌<◌, ◌↔◌, [], ◌∷◌, Bool, Option, Some, None, length, map, slice_index_or, option_map, OnOk, IsOk, IsNone, IfOk, IfSome, IsTrue, MatchOption};
 ghost use Rattle.std.specs.Bool.{beq};
 ghost use Rattle.std.specs.Cmp.{partial_equiv_from_equiv, bool_eq_equiv, on_equiv};
 ghost use Rattle.std.specs.Cmp.Lexicographic.{pointwise, lists_equiv, options_equiv};
@@ -12,7 +12,7 @@ ghost use Rattle.arrow2_model.specs.Tables.{each};
 ghost use Rattle.arrow2_bitmap.specs.PackedBitmaps.{IsPacked};
 ghost use Rattle.arrow2_walks.specs.Selections.{non_null_values};
 ghost use Rattle.arrow2_walks.specs.Zipped.{zipped};
-ghost use Rattle.arrow2_types.specs.Failures.{FailsOnlyWith};
+ghost use Rattle.arrow2_types.specs.Failures.{FailsOnlyWith, OnlyOutOfMemory};
 ghost use Rattle.arrow2_validity.specs.OptionalValidity.{valid_items};
 ghost use Rattle.arrow2_validity.specs.Failures.{unequal_lengths_message};
 ghost use Rattle.arrow2_array.specs.Items.{boolean_items, sliced_boolean, nulls};
@@ -26,7 +26,7 @@ use crate::mutable::MutableBooleanArray;
 use arrow2_bitmap::Bitmap;
 use arrow2_bitmap::bitmap_ops::binary_table;
 use arrow2_bits::BitmapIter;
-use arrow2_types::{Error, Result};
+use arrow2_types::Result;
 use arrow2_validity::Validity;
 use arrow2_walks::{ArrayIter, NonNullValuesIter};
 use std::alloc::{AllocError, Global};
@@ -136,7 +136,7 @@ impl BooleanArray {
         ensures bitmap { IfOk result (λ a. IsNone a.validity.bitmap ↔ (nulls items.now ≡ 0)) }
         ensures storage { IfOk result (λ a. IsPacked a.values) }
         ensures packed { IfOk result (λ a. IfSome a.validity.bitmap (λ v. IsPacked v)) }
-        ensures only { IfErr result (λ e. e ≡ Error.OutOfMemory) }
+        ensures only { OnlyOutOfMemory result }
     {
         let mut array = MutableBooleanArray::new(alloc);
         array.extend_from_options(items)?;
@@ -332,7 +332,7 @@ impl BooleanArray {
         // `OutOfMemory`.
         ensures storage { IfOk result (λ a. IsPacked a.values) }
         ensures packed { IfOk result (λ a. IfSome a.validity.bitmap (λ v. IsPacked v)) }
-        ensures only { IfErr result (λ e. e ≡ Error.OutOfMemory) }
+        ensures only { OnlyOutOfMemory result }
     {
         self.by_tables::<AND_VALUES, AND_KNOWN, AND_KNOWN_PAIRED>(other)
     }
@@ -365,7 +365,7 @@ impl BooleanArray {
         // `OutOfMemory`.
         ensures storage { IfOk result (λ a. IsPacked a.values) }
         ensures packed { IfOk result (λ a. IfSome a.validity.bitmap (λ v. IsPacked v)) }
-        ensures only { IfErr result (λ e. e ≡ Error.OutOfMemory) }
+        ensures only { OnlyOutOfMemory result }
     {
         self.by_tables::<OR_VALUES, OR_KNOWN, OR_KNOWN_PAIRED>(other)
     }
@@ -397,7 +397,7 @@ impl BooleanArray {
         // `OutOfMemory`.
         ensures storage { IfOk result (λ a. IsPacked a.values) }
         ensures packed { IfOk result (λ a. IfSome a.validity.bitmap (λ v. IsPacked v)) }
-        ensures only { IfErr result (λ e. e ≡ Error.OutOfMemory) }
+        ensures only { OnlyOutOfMemory result }
     {
         let values = binary_table(&self.values, &other.values, VALUES)?;
         let validity = validity_by::<KNOWN, PAIRED>(

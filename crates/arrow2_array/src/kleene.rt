@@ -1,17 +1,18 @@
 //! Truth tables of Kleene's `and` and `or`. For each operator, one table gives the value of the result, and two others
 //! give whether the result is not null.
-ghost use Rattle.std.specs.Prelude.{◌≡◌, ◌<◌, ◌↔◌, ℕ, [], ◌∷◌, length, Some, IsNone, IfOk, IfErr, IfSome};
+ghost use Rattle.std.specs.Prelude.{◌≡◌, ◌<◌, ◌↔◌, ℕ, [], ◌∷◌, length, Some, IsNone, IfOk, IfSome};
 ghost use Rattle.arrow2_model.specs.Bits.{bit};
 ghost use Rattle.arrow2_model.specs.Storage.{items_of};
 ghost use Rattle.arrow2_model.specs.Tables.{answer, each};
 ghost use Rattle.arrow2_validity.specs.OptionalValidity.{valid_items};
 ghost use Rattle.arrow2_array.specs.Kleene.{AgreesWhereOneIsValid};
 ghost use Rattle.arrow2_bitmap.specs.PackedBitmaps.{IsPacked};
+ghost use Rattle.arrow2_types.specs.Failures.{OnlyOutOfMemory};
 
 use arrow2_bitmap::Bitmap;
 use arrow2_kernels::truth_tables::{quaternary_outputs, ternary_outputs};
 use arrow2_tables::bitmap_ops::{quaternary, ternary};
-use arrow2_types::{Error, Result};
+use arrow2_types::Result;
 use arrow2_validity::Validity;
 
 /// The truth table of `and` on two values: bit `left + 2 * right` is its result.
@@ -67,7 +68,7 @@ pub(crate) fn validity_by<const KNOWN: u16, const PAIRED: u8>(
         ↔ (IsNone left_validity.now.bitmap × IsNone right_validity.now.bitmap)) }
     ensures packed { IfOk result (λ v. IfSome v.bitmap (λ b. IsPacked b)) }
     // The only error is `OutOfMemory`.
-    ensures only { IfErr result (λ e. e ≡ Error.OutOfMemory) }
+    ensures only { OnlyOutOfMemory result }
 {
     let len = left.len();
     match (left_validity.bitmap(), right_validity.bitmap()) {
@@ -88,7 +89,7 @@ fn ternary_bitmap<const T: u8>(a1: &Bitmap, a2: &Bitmap, a3: &Bitmap) -> Result<
         ≡ each T (items_of a1.now ∷ items_of a2.now ∷ items_of a3.now ∷ [])) }
     ensures len { IfOk result (λ b. length (items_of b) ≡ length (items_of a1.now)) }
     ensures storage { IfOk result (λ b. IsPacked b) }
-    ensures only { IfErr result (λ e. e ≡ Error.OutOfMemory) }
+    ensures only { OnlyOutOfMemory result }
 {
     ternary(
         a1,
@@ -118,7 +119,7 @@ fn quaternary_bitmap<const T: u16>(
     ensures len { IfOk result (λ b. length (items_of b) ≡ length (items_of a1.now)) }
     ensures storage { IfOk result (λ b. IsPacked b) }
     // The only error is `OutOfMemory`.
-    ensures only { IfErr result (λ e. e ≡ Error.OutOfMemory) }
+    ensures only { OnlyOutOfMemory result }
 {
     quaternary(
         a1,

@@ -1,8 +1,8 @@
 //! An array of booleans that grows.
-ghost use Rattle.std.specs.Prelude.{◌≡◌, ◌+◌, ◌<◌, ◌≤◌, ◌^◌, ◌↔◌, ◌⊎◌, ◌++◌, [], ◌∷◌, None, Some, length, map, replicate, IfOk, IfErr, IsErrOf, IsOk, IfNone, IsNone, IfSome, IsTrue, MatchOption, OnOk};
+ghost use Rattle.std.specs.Prelude.{◌≡◌, ◌+◌, ◌<◌, ◌≤◌, ◌^◌, ◌↔◌, ◌++◌, [], ◌∷◌, None, Some, length, map, replicate, IfOk, IsErrOf, IsOk, IfNone, IsNone, IfSome, IsTrue, MatchOption, OnOk};
 ghost use Rattle.std.specs.Iterator.{IsFinite, IsFiniteIterable};
 ghost use Rattle.std.specs.Iterator.Runs.{WholeRun};
-ghost use Rattle.arrow2_types.specs.Failures.{error_of};
+ghost use Rattle.arrow2_types.specs.Failures.{error_of, OnlyOutOfMemory, OnlyOverflowOrOutOfMemory};
 ghost use Rattle.arrow2_model.specs.Parts.{part};
 ghost use Rattle.arrow2_model.specs.Storage.{items_of};
 ghost use Rattle.arrow2_packed_bits.specs.Growth.{Appends};
@@ -69,7 +69,7 @@ impl MutableBooleanArray {
     pub fn with_capacity(alloc: Global, capacity: usize) -> Result<MutableBooleanArray>
         ensures ok { IfOk result (λ a. a.items ≡ []) }
         ensures capacity { IfOk result (λ a. capacity ≤ a.capacity) }
-        ensures only { IfErr result (λ e. e ≡ Error.OutOfMemory) }
+        ensures only { OnlyOutOfMemory result }
         ensures succeeds { capacity ≡ 0 → IsOk result }
     {
         Ok(MutableBooleanArray {
@@ -99,7 +99,7 @@ impl MutableBooleanArray {
         // `Overflow` comes only where a run may have too many items.
         ensures overflow { IsErrOf result Error.Overflow →
             (it : I.IntoIter) × I.into_iter_gives iter it × MayYieldTooMany I.IntoIter.next_gives it }
-        ensures only { IfErr result (λ e. (e ≡ Error.Overflow) ⊎ (e ≡ Error.OutOfMemory)) }
+        ensures only { OnlyOverflowOrOutOfMemory result }
     {
         MutableBooleanArray::collect_items(alloc, iter.into_iter())
     }
@@ -113,7 +113,7 @@ impl MutableBooleanArray {
         requires ends { IsFinite (I.remaining items) }
         ensures items { IfOk result (λ a. WholeRun I.next_gives items (λ p. a.items ≡ p.items)) }
         ensures overflow { IsErrOf result Error.Overflow → MayYieldTooMany I.next_gives items }
-        ensures only { IfErr result (λ e. (e ≡ Error.Overflow) ⊎ (e ≡ Error.OutOfMemory)) }
+        ensures only { OnlyOverflowOrOutOfMemory result }
     {
         let mut array = MutableBooleanArray::new(alloc);
         for item in items {
@@ -159,7 +159,7 @@ impl MutableBooleanArray {
         // When each error comes, and when none does.
         ensures overflow { IsErrOf result Error.Overflow ↔
             (2 ^ 64 ≤ length self.old.items + additional) }
-        ensures only { IfErr result (λ e. (e ≡ Error.Overflow) ⊎ (e ≡ Error.OutOfMemory)) }
+        ensures only { OnlyOverflowOrOutOfMemory result }
         ensures succeeds { length self.old.items + additional ≤ self.old.capacity → IsOk result }
         // The capacity never falls.
         ensures capacity { self.old.capacity ≤ self.new.capacity }
@@ -326,7 +326,7 @@ impl MutableBooleanArray {
         ensures bitmap { IfOk result (λ a. IsNone a.validity.bitmap ↔ (nulls self.items ≡ 0)) }
         ensures storage { IfOk result (λ a. IsPacked a.values) }
         ensures packed { IfOk result (λ a. IfSome a.validity.bitmap (λ v. IsPacked v)) }
-        ensures only { IfErr result (λ e. e ≡ Error.OutOfMemory) }
+        ensures only { OnlyOutOfMemory result }
     {
         let validity = self.validity.into_validity()?;
         let values = Bitmap::try_from(self.values)?;

@@ -1,5 +1,5 @@
 //! New bitmaps from word functions and truth tables, and the operators on shared bitmaps.
-ghost use Rattle.std.specs.Prelude.{◌≡◌, ℕ, List, Bool, [], ◌∷◌, length, replicate, IfOk, IfErr, IfSome, IsTrue, MatchResult, ◌⊎◌};
+ghost use Rattle.std.specs.Prelude.{◌≡◌, ℕ, List, Bool, [], ◌∷◌, length, replicate, IfOk, IfSome, IsTrue, MatchResult, ◌⊎◌};
 ghost use Rattle.arrow2_model.specs.Kernels.{bits_of_words, kernel, unary_kernel, binary_kernel, ComputesUnary, ComputesBinary};
 ghost use Rattle.arrow2_model.specs.Storage.{bitmap_word, items_of};
 ghost use Rattle.arrow2_model.specs.Tables.{each, IsBitwiseUnary, IsBitwiseBinary};
@@ -7,6 +7,7 @@ ghost use Rattle.arrow2_types.specs.declared.error.Error.TheVariants.{OutOfMemor
 ghost use Rattle.arrow2_kernels.specs.WordResults.{AreJoinedResults, MayReturnRow};
 ghost use Rattle.arrow2_bitmap.specs.PackedBitmaps.{IsPacked};
 ghost use Rattle.arrow2_model.specs.Rows.{AreRowsOf, IsBitwiseOnRows, ComputesRows};
+ghost use Rattle.arrow2_types.specs.Failures.{OnlyOutOfMemory};
 
 use crate::immutable::Bitmap;
 use crate::mutable::MutableBitmap;
@@ -15,7 +16,7 @@ use arrow2_kernels::map::map_rows;
 use arrow2_kernels::simd_map::{map_binary, map_unary};
 use arrow2_kernels::truth_tables::{binary_outputs, unary_outputs};
 use arrow2_kernels::{OneList, WordRows, ZipRows};
-use arrow2_types::{Error, Result};
+use arrow2_types::Result;
 use std::alloc::Global;
 use std::convert::TryFrom;
 use std::ops::{BitAnd, BitOr, BitXor, Not};
@@ -69,7 +70,7 @@ pub fn from_rows<S: WordRows<u64>, F: Fn(S::Row) -> u64>(
     // The new bitmap has `len` items. It is stored in canonical bytes, from bit 0 on. The only error is `OutOfMemory`.
     ensures len { IfOk result (λ b. length (items_of b) ≡ len) }
     ensures storage { IfOk result (λ b. IsPacked b) }
-    ensures only { IfErr result (λ e. e ≡ Error.OutOfMemory) }
+    ensures only { OnlyOutOfMemory result }
 {
     let bytes = map_rows(alloc, len, rows, op)?;
     prove!(bytes_for(len) <= bytes.len());
@@ -110,7 +111,7 @@ pub fn unary<F: Fn(u64) -> u64>(lhs: &Bitmap, op: F) -> Result<Bitmap>
     // `OutOfMemory`.
     ensures len { IfOk result (λ b. length (items_of b) ≡ length (items_of lhs.now)) }
     ensures storage { IfOk result (λ b. IsPacked b) }
-    ensures only { IfErr result (λ e. e ≡ Error.OutOfMemory) }
+    ensures only { OnlyOutOfMemory result }
 {
     let alloc = lhs.allocator();
     let (bytes, offset, length) = lhs.as_slice();
@@ -158,7 +159,7 @@ pub fn binary<F: Fn(u64, u64) -> u64>(lhs: &Bitmap, rhs: &Bitmap, op: F) -> Resu
     // `OutOfMemory`.
     ensures len { IfOk result (λ b. length (items_of b) ≡ length (items_of lhs.now)) }
     ensures storage { IfOk result (λ b. IsPacked b) }
-    ensures only { IfErr result (λ e. e ≡ Error.OutOfMemory) }
+    ensures only { OnlyOutOfMemory result }
 {
     let left = OneList {
         chunks: lhs.chunks::<u64>(),
@@ -190,7 +191,7 @@ pub fn unary_table(lhs: &Bitmap, t: u8) -> Result<Bitmap>
     ensures items { IfOk result (λ b. items_of b ≡ each t (items_of lhs.now ∷ [])) }
     ensures len { IfOk result (λ b. length (items_of b) ≡ length (items_of lhs.now)) }
     ensures storage { IfOk result (λ b. IsPacked b) }
-    ensures only { IfErr result (λ e. e ≡ Error.OutOfMemory) }
+    ensures only { OnlyOutOfMemory result }
 {
     let (bytes, offset, length) = lhs.as_slice();
     if offset == 0 {
@@ -220,7 +221,7 @@ pub fn binary_table(lhs: &Bitmap, rhs: &Bitmap, t: u8) -> Result<Bitmap>
         ≡ each t (items_of lhs.now ∷ items_of rhs.now ∷ [])) }
     ensures len { IfOk result (λ b. length (items_of b) ≡ length (items_of lhs.now)) }
     ensures storage { IfOk result (λ b. IsPacked b) }
-    ensures only { IfErr result (λ e. e ≡ Error.OutOfMemory) }
+    ensures only { OnlyOutOfMemory result }
 {
     let (left, left_offset, length) = lhs.as_slice();
     let (right, right_offset, _right_length) = rhs.as_slice();
@@ -247,7 +248,7 @@ pub fn and(lhs: &Bitmap, rhs: &Bitmap) -> Result<Bitmap>
         ≡ each 8 (items_of lhs.now ∷ items_of rhs.now ∷ [])) }
     ensures len { IfOk result (λ b. length (items_of b) ≡ length (items_of lhs.now)) }
     ensures storage { IfOk result (λ b. IsPacked b) }
-    ensures only { IfErr result (λ e. e ≡ Error.OutOfMemory) }
+    ensures only { OnlyOutOfMemory result }
 {
     if one_is_all(lhs, rhs, false) {
         constant_bitmap(lhs.allocator(), lhs.len(), false)
@@ -271,7 +272,7 @@ pub fn or(lhs: &Bitmap, rhs: &Bitmap) -> Result<Bitmap>
         ≡ each 14 (items_of lhs.now ∷ items_of rhs.now ∷ [])) }
     ensures len { IfOk result (λ b. length (items_of b) ≡ length (items_of lhs.now)) }
     ensures storage { IfOk result (λ b. IsPacked b) }
-    ensures only { IfErr result (λ e. e ≡ Error.OutOfMemory) }
+    ensures only { OnlyOutOfMemory result }
 {
     if one_is_all(lhs, rhs, true) {
         constant_bitmap(lhs.allocator(), lhs.len(), true)
@@ -295,7 +296,7 @@ pub fn xor(lhs: &Bitmap, rhs: &Bitmap) -> Result<Bitmap>
         ≡ each 6 (items_of lhs.now ∷ items_of rhs.now ∷ [])) }
     ensures len { IfOk result (λ b. length (items_of b) ≡ length (items_of lhs.now)) }
     ensures storage { IfOk result (λ b. IsPacked b) }
-    ensures only { IfErr result (λ e. e ≡ Error.OutOfMemory) }
+    ensures only { OnlyOutOfMemory result }
 {
     let left = value_of_all(lhs);
     let right = value_of_all(rhs);
@@ -371,7 +372,7 @@ impl<'a> Not for &'a Bitmap {
 fn complement(bitmap: &Bitmap) -> Result<Bitmap>
     ensures items { IfOk result (λ b. items_of b ≡ each 1 (items_of bitmap.now ∷ [])) }
     ensures storage { IfOk result (λ b. IsPacked b) }
-    ensures only { IfErr result (λ e. e ≡ Error.OutOfMemory) }
+    ensures only { OnlyOutOfMemory result }
 {
     unary_table(bitmap, 0b01)
 }
@@ -417,7 +418,7 @@ fn value_of_all(bitmap: &Bitmap) -> Option<bool>
 fn constant_bitmap(alloc: Global, len: usize, value: bool) -> Result<Bitmap>
     ensures items { IfOk result (λ b. items_of b ≡ replicate len value) }
     ensures storage { IfOk result (λ b. IsPacked b) }
-    ensures only { IfErr result (λ e. e ≡ Error.OutOfMemory) }
+    ensures only { OnlyOutOfMemory result }
 {
     if value {
         Bitmap::try_from(MutableBitmap::from_len_set(alloc, len)?)

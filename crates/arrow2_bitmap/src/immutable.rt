@@ -1,5 +1,5 @@
 //! A bitmap over shared bytes.
-ghost use Rattle.std.specs.Prelude.{◌≡◌, ℕ, List, Bool, map, ◌+◌, ◌*◌, ◌/◌, ◌%◌, ◌<◌, ◌≤◌, ◌↔◌, [], false, length, replicate, slice_index_or, take, OnOk, IfOk, IfErr, IsTrue, Some, MatchResult, vec_len, codes, IsErrOf, ◌^◌, ◌⊎◌, IsNone, IfSome};
+ghost use Rattle.std.specs.Prelude.{◌≡◌, ℕ, List, Bool, map, ◌+◌, ◌*◌, ◌/◌, ◌%◌, ◌<◌, ◌≤◌, ◌↔◌, [], false, length, replicate, slice_index_or, take, OnOk, IfOk, IsTrue, Some, MatchResult, vec_len, codes, IsErrOf, ◌^◌, IsNone, IfSome};
 ghost use Rattle.std.specs.Bool.{beq};
 ghost use Rattle.std.specs.Ordering.{on};
 ghost use Rattle.std.specs.Cmp.{partial_equiv_from_equiv, bool_eq_equiv, on_equiv};
@@ -15,7 +15,7 @@ ghost use Rattle.arrow2_model.specs.Shown.{shown};
 ghost use Rattle.arrow2_model.specs.Touched.{slice_reads};
 ghost use Rattle.arrow2_model.specs.Words.{spill};
 ghost use Rattle.arrow2_model.specs.Storage.{BitmapStorage, items_of};
-ghost use Rattle.arrow2_types.specs.Failures.{FailsOnlyWith};
+ghost use Rattle.arrow2_types.specs.Failures.{FailsOnlyWith, OnlyOutOfMemory, OnlyOverflowOrOutOfMemory};
 ghost use Rattle.arrow2_types.specs.declared.error.Error.TheVariants.{OutOfMemory};
 ghost use Rattle.arrow2_bitmap.specs.Predicates.{ReturnsBelow, ReturnsOnEach, ReturnsOnPairs, IsResultAt, IsPairResultAt, IsCallableWithEach, IsCallableWithPairs};
 ghost use Rattle.arrow2_bitmap.specs.Iterators.{MayYieldTooMany};
@@ -86,7 +86,7 @@ impl Bitmap {
     pub fn new(alloc: Global) -> Result<Bitmap>
         ensures items { IfOk result (λ b. items_of b ≡ []) }
         ensures storage { IfOk result (λ b. b ≡ record { bytes = []; offset = 0; len = 0 }) }
-        ensures only { IfErr result (λ e. e ≡ Error.OutOfMemory) }
+        ensures only { OnlyOutOfMemory result }
     {
         Bitmap::from_u8_vec(Vec::new(alloc), 0)
     }
@@ -110,7 +110,7 @@ impl Bitmap {
         ensures len { IfOk result (λ b. length (items_of b) ≡ len) }
         ensures rejected { 8 * vec_len bytes < len →
             FailsOnlyWith result (too_long (codes "The offset + length") len (vec_len bytes)) }
-        ensures only { len ≤ 8 * vec_len bytes → IfErr result (λ e. e ≡ Error.OutOfMemory) }
+        ensures only { len ≤ 8 * vec_len bytes → OnlyOutOfMemory result }
     {
         check_length("The offset + length", len, &bytes)?;
         Bitmap::from_u8_vec(bytes, len)
@@ -131,7 +131,7 @@ impl Bitmap {
         }) }
         ensures items { IfOk result (λ b. items_of b ≡ take len (bits bytes.items)) }
         ensures len { IfOk result (λ b. length (items_of b) ≡ len) }
-        ensures only { IfErr result (λ e. e ≡ Error.OutOfMemory) }
+        ensures only { OnlyOutOfMemory result }
     {
         prove!(bytes_for(len) <= bytes.len());
         let unset_bits = count_zeros(bytes.as_slice(), 0, len);
@@ -151,7 +151,7 @@ impl Bitmap {
         }) }
         ensures items { IfOk result (λ b. items_of b ≡ take len (bits bytes.items)) }
         ensures len { IfOk result (λ b. length (items_of b) ≡ len) }
-        ensures only { IfErr result (λ e. e ≡ Error.OutOfMemory) }
+        ensures only { OnlyOutOfMemory result }
     {
         let alloc = *bytes.allocator();
         let bytes = Rc::new(alloc, Bytes::from(bytes))?;
@@ -174,7 +174,7 @@ impl Bitmap {
         ensures ok { IfOk result (λ b. b ≡ record { bytes = bytes.now; offset = 0; len = len }) }
         ensures items { IfOk result (λ b. items_of b ≡ take len (bits bytes.now)) }
         ensures len { IfOk result (λ b. length (items_of b) ≡ len) }
-        ensures only { IfErr result (λ e. e ≡ Error.OutOfMemory) }
+        ensures only { OnlyOutOfMemory result }
     {
         Bitmap::from_u8_vec(Vec::from_slice(alloc, bytes)?, len)
     }
@@ -191,7 +191,7 @@ impl Bitmap {
           offset = 0;
           len = len;
         }) }
-        ensures only { IfErr result (λ e. e ≡ Error.OutOfMemory) }
+        ensures only { OnlyOutOfMemory result }
     {
         let zeros = vec![in alloc; 0u8; bytes_for(len)]?;
         Bitmap::from_counted(zeros, len, len)
@@ -207,7 +207,7 @@ impl Bitmap {
     pub fn from_bools(alloc: Global, items: &[bool]) -> Result<Bitmap>
         ensures items { IfOk result (λ b. items_of b ≡ items.now) }
         ensures storage { IfOk result (λ b. b ≡ packed_storage items.now) }
-        ensures only { IfErr result (λ e. e ≡ Error.OutOfMemory) }
+        ensures only { OnlyOutOfMemory result }
     {
         Bitmap::try_from(MutableBitmap::from_bools(alloc, items)?)
     }
@@ -234,7 +234,7 @@ impl Bitmap {
         // `Overflow` comes only where the iterator may yield too many items.
         ensures overflow { IsErrOf result Error.Overflow →
             (it : I.IntoIter) × I.into_iter_gives iter it × MayYieldTooMany I.IntoIter.next_gives it }
-        ensures only { IfErr result (λ e. (e ≡ Error.Overflow) ⊎ (e ≡ Error.OutOfMemory)) }
+        ensures only { OnlyOverflowOrOutOfMemory result }
     {
         Bitmap::try_from(MutableBitmap::try_from_iter(alloc, iter)?)
     }
@@ -259,7 +259,7 @@ impl Bitmap {
         // `OutOfMemory`.
         ensures len { IfOk result (λ b. length (items_of b) ≡ len) }
         ensures storage { IfOk result (λ b. IsPacked b) }
-        ensures only { IfErr result (λ e. e ≡ Error.OutOfMemory) }
+        ensures only { OnlyOutOfMemory result }
     {
         let bytes = pack_results(alloc, len, f)?;
         Bitmap::try_from(MutableBitmap::from_vec(bytes, len))
@@ -285,7 +285,7 @@ impl Bitmap {
         // `OutOfMemory`.
         ensures len { IfOk result (λ b. length (items_of b) ≡ length items.now) }
         ensures storage { IfOk result (λ b. IsPacked b) }
-        ensures only { IfErr result (λ e. e ≡ Error.OutOfMemory) }
+        ensures only { OnlyOutOfMemory result }
     {
         Bitmap::try_from_fn(
             alloc,
@@ -325,7 +325,7 @@ impl Bitmap {
         // `OutOfMemory`.
         ensures len { IfOk result (λ b. length (items_of b) ≡ length left.now) }
         ensures storage { IfOk result (λ b. IsPacked b) }
-        ensures only { IfErr result (λ e. e ≡ Error.OutOfMemory) }
+        ensures only { OnlyOutOfMemory result }
     {
         Bitmap::try_from_fn(
             alloc,
@@ -592,7 +592,7 @@ impl Bitmap {
     /// Only `OutOfMemory`. The bitmap is then dropped.
     pub fn make_mut(self) -> Result<MutableBitmap>
         ensures ok { IfOk result (λ m. m.items ≡ items_of self) }
-        ensures only { IfErr result (λ e. e ≡ Error.OutOfMemory) }
+        ensures only { OnlyOutOfMemory result }
     {
         match self.into_mut() {
             Either::Left(shared) => copy_items(&shared),
@@ -604,7 +604,7 @@ impl Bitmap {
 /// Returns a bitmap that grows, with a copy of the items. Allocates at most once. The only error is `OutOfMemory`.
 fn copy_items(bitmap: &Bitmap) -> Result<MutableBitmap>
     ensures ok { IfOk result (λ m. m.items ≡ items_of bitmap.now) }
-    ensures only { IfErr result (λ e. e ≡ Error.OutOfMemory) }
+    ensures only { OnlyOutOfMemory result }
 {
     if bitmap.offset % 8 == 0 {
         return copy_bytes(bitmap);
@@ -619,7 +619,7 @@ fn copy_items(bitmap: &Bitmap) -> Result<MutableBitmap>
 fn copy_bytes(bitmap: &Bitmap) -> Result<MutableBitmap>
     requires { bitmap.now.offset % 8 ≡ 0 }
     ensures ok { IfOk result (λ m. m.items ≡ items_of bitmap.now) }
-    ensures only { IfErr result (λ e. e ≡ Error.OutOfMemory) }
+    ensures only { OnlyOutOfMemory result }
 {
     let (stored, _, length) = bitmap.as_slice();
     let bytes = Vec::from_slice(bitmap.allocator(), stored)?;

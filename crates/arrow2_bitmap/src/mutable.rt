@@ -1,5 +1,5 @@
 //! A bitmap that grows.
-ghost use Rattle.std.specs.Prelude.{◌≡◌, ◌+◌, ◌-◌, ◌*◌, ◌/◌, ◌<◌, ◌≤◌, ◌^◌, ◌↔◌, ◌⊎◌, [], ◌∷◌, ◌++◌, false, length, take, slice_index_or, slice_set, OnOk, IsOk, IfOk, IfErr, IsErrOf, IsTrue, IfNone, IfSome, IsNone, MatchOption, Some, codes, vec_len, vec_capacity, min, Bool, true, replicate};
+ghost use Rattle.std.specs.Prelude.{◌≡◌, ◌+◌, ◌-◌, ◌*◌, ◌/◌, ◌<◌, ◌≤◌, ◌^◌, ◌↔◌, [], ◌∷◌, ◌++◌, false, length, take, slice_index_or, slice_set, OnOk, IsOk, IfOk, IsErrOf, IsTrue, IfNone, IfSome, IsNone, MatchOption, Some, codes, vec_len, vec_capacity, min, Bool, true, replicate};
 ghost use Rattle.std.specs.Iterator.{IsFiniteIterable};
 ghost use Rattle.std.specs.Iterator.Runs.{WholeRun};
 ghost use Rattle.std.specs.Bool.{beq};
@@ -13,7 +13,7 @@ ghost use Rattle.arrow2_bitmap.specs.PackedBitmaps.{packed_storage};
 ghost use Rattle.arrow2_model.specs.Shown.{shown};
 ghost use Rattle.arrow2_model.specs.Storage.{GrowingBitmap, items_of};
 ghost use Rattle.arrow2_model.specs.Tables.{each};
-ghost use Rattle.arrow2_types.specs.Failures.{FailsOnlyWith, error_of};
+ghost use Rattle.arrow2_types.specs.Failures.{FailsOnlyWith, error_of, OnlyOutOfMemory, OnlyOverflowOrOutOfMemory};
 ghost use Rattle.arrow2_packed_bits.specs.Growth.{Appends};
 ghost use Rattle.arrow2_bitmap.specs.Iterators.{MayYieldTooMany};
 ghost use Rattle.arrow2_bitmap.specs.Failures.{too_long};
@@ -117,7 +117,7 @@ impl MutableBitmap {
     pub fn with_capacity(alloc: Global, capacity: usize) -> Result<MutableBitmap>
         ensures ok { IfOk result (λ m. m.items ≡ []) }
         ensures capacity { IfOk result (λ m. capacity ≤ m.capacity) }
-        ensures only { IfErr result (λ e. e ≡ Error.OutOfMemory) }
+        ensures only { OnlyOutOfMemory result }
         ensures succeeds { capacity ≡ 0 → IsOk result }
     {
         let bits = PackedBits::with_capacity(alloc, capacity)?;
@@ -132,7 +132,7 @@ impl MutableBitmap {
     #[tactic(auto, using(arrow2_packed_bits::proofs::ConstantBytes::filling))]
     pub fn from_len_zeroed(alloc: Global, len: usize) -> Result<MutableBitmap>
         ensures ok { IfOk result (λ m. m.items ≡ replicate len false) }
-        ensures only { IfErr result (λ e. e ≡ Error.OutOfMemory) }
+        ensures only { OnlyOutOfMemory result }
     {
         let zeros = constant_bytes(alloc, 0, bytes_for(len))?;
         Ok(MutableBitmap::from_vec(zeros, len))
@@ -146,7 +146,7 @@ impl MutableBitmap {
     #[tactic(auto, using(arrow2_packed_bits::proofs::ConstantBytes::filling))]
     pub fn from_len_set(alloc: Global, len: usize) -> Result<MutableBitmap>
         ensures ok { IfOk result (λ m. m.items ≡ replicate len true) }
-        ensures only { IfErr result (λ e. e ≡ Error.OutOfMemory) }
+        ensures only { OnlyOutOfMemory result }
     {
         let ones = constant_bytes(alloc, u8::MAX, bytes_for(len))?;
         Ok(MutableBitmap::from_vec(ones, len))
@@ -174,7 +174,7 @@ impl MutableBitmap {
         // `Overflow` comes only where the iterator may yield too many items.
         ensures overflow { IsErrOf result Error.Overflow →
             (it : I.IntoIter) × I.into_iter_gives iter it × MayYieldTooMany I.IntoIter.next_gives it }
-        ensures only { IfErr result (λ e. (e ≡ Error.Overflow) ⊎ (e ≡ Error.OutOfMemory)) }
+        ensures only { OnlyOverflowOrOutOfMemory result }
     {
         let (bytes, length) = collect_bits(alloc, iter.into_iter())?;
         Ok(MutableBitmap::from_vec(bytes, length))
@@ -189,7 +189,7 @@ impl MutableBitmap {
     /// Only `OutOfMemory`.
     pub fn from_bools(alloc: Global, items: &[bool]) -> Result<MutableBitmap>
         ensures ok { IfOk result (λ m. m.items ≡ items.now) }
-        ensures only { IfErr result (λ e. e ≡ Error.OutOfMemory) }
+        ensures only { OnlyOutOfMemory result }
     {
         Ok(MutableBitmap::from_vec(pack_bits(alloc, items)?, items.len()))
     }
@@ -287,7 +287,7 @@ impl MutableBitmap {
         // When `Overflow` comes, which errors can come, and when none does.
         ensures overflow { IsErrOf result Error.Overflow ↔
             (2 ^ 64 ≤ length self.old.items + additional) }
-        ensures only { IfErr result (λ e. (e ≡ Error.Overflow) ⊎ (e ≡ Error.OutOfMemory)) }
+        ensures only { OnlyOverflowOrOutOfMemory result }
         ensures succeeds { length self.old.items + additional ≤ self.old.capacity → IsOk result }
         // The capacity never falls.
         ensures capacity { self.old.capacity ≤ self.new.capacity }
@@ -322,7 +322,7 @@ impl MutableBitmap {
         ensures items { IfOk result (λ validity. IfSome validity (λ b. items_of b ≡ self.items)) }
         ensures storage { IfOk result (λ validity.
             IfSome validity (λ b. b ≡ packed_storage self.items)) }
-        ensures only { IfErr result (λ e. e ≡ Error.OutOfMemory) }
+        ensures only { OnlyOutOfMemory result }
         ensures succeeds { falses self.items ≡ 0 → IsOk result }
     {
         let unset_bits = self.unset_bits();

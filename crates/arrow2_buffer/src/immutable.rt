@@ -1,5 +1,5 @@
 //! A list that is shared, cloned and sliced in constant time.
-ghost use Rattle.std.specs.Prelude.{◌≡◌, ◌≢◌, ◌+◌, ◌-◌, ◌^◌, ◌<◌, ◌≤◌, ◌↔◌, List, [], length, slice_index_or, IsTrue, IfOk, IfErr, IfSome, MatchResult, ⊤, vec_len, vec_capacity};
+ghost use Rattle.std.specs.Prelude.{◌≡◌, ◌≢◌, ◌+◌, ◌-◌, ◌^◌, ◌<◌, ◌≤◌, ◌↔◌, List, [], length, slice_index_or, IsTrue, IfOk, IfSome, MatchResult, ⊤, vec_len, vec_capacity};
 ghost use Rattle.std.specs.Bool.{OnTrue, OnFalse};
 ghost use Rattle.std.specs.Borrow.{sem};
 ghost use Rattle.std.specs.Fmt.{debug_list};
@@ -18,6 +18,7 @@ ghost use Rattle.arrow2_model.specs.Buffers.{buffer_items, whole_buffer, overwri
 ghost use Rattle.arrow2_buffer.specs.Loans.{LendsOwnedPart, ReplacesPart};
 ghost use Rattle.either.specs.Either.{MatchEither};
 ghost use Rattle.std.specs.declared.alloc.Global.{Global};
+ghost use Rattle.arrow2_types.specs.Failures.{OnlyOutOfMemory};
 
 use crate::bytes::Bytes;
 use crate::collect::collect_items;
@@ -281,7 +282,7 @@ impl<T: Drop> Buffer<T> {
     /// `OutOfMemory` where the allocation of the reference count fails.
     pub fn new(alloc: Global) -> Result<Self>
         ensures made { IfOk result (λ b. b ≡ whole_buffer []) }
-        ensures only { IfErr result (λ e. e ≡ OutOfMemory) }
+        ensures only { OnlyOutOfMemory result }
     {
         Buffer::try_from(Vec::new(alloc))
     }
@@ -299,7 +300,7 @@ impl<T: Drop> Buffer<T> {
         // All items of a run of the iterator.
         ensures items { IfOk result (λ b. (it : I.IntoIter) × I.into_iter_gives iter it
             × WholeRun I.IntoIter.next_gives it (λ p. b ≡ whole_buffer p.items)) }
-        ensures only { IfErr result (λ e. e ≡ OutOfMemory) }
+        ensures only { OnlyOutOfMemory result }
     {
         let items = collect_items(alloc, iter.into_iter())?;
         Buffer::try_from(items)

@@ -1,5 +1,5 @@
 -- Loops of kernels: the items so far, and that their number is at most that of all items.
-use Rattle.std.proofs.Common.{◌≡◌, ℕ, zero, suc, ◌+◌, ◌<◌, ◌≤◌, List, [], ◌∷◌, ◌++◌, Bool, length, take, get_or, refl, ap, sym, ◌∙◌, append_assoc, arith, add-one, inl, inr, rules}
+use Rattle.std.proofs.Common.{◌≡◌, ℕ, zero, suc, ◌+◌, ◌<◌, ◌≤◌, List, [], ◌∷◌, ◌++◌, Bool, length, take, get_or, ap, sym, ◌∙◌, append_assoc, arith, add-one, inl, inr, rules}
 use Rattle.std.specs.Prelude.{◌^◌, ◌↔◌, ◌⊎◌, Result, Ok, Err, IfErr, IsErrOf}
 use Rattle.std.specs.List.{flat_map}
 use Rattle.std.proofs.lemmas.List.{append-nil, length-append}

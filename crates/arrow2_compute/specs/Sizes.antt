@@ -1,5 +1,6 @@
 -- Items of arrays of byte strings and of texts, and the number of their bytes.
 use Rattle.std.specs.Prelude.{ℕ, ◌+◌, ◌<◌, ◌≤◌, ◌^◌, ◌⊎◌, List, [], ◌∷◌, ◌++◌, Option, None, Result, flat_map, length, slice_index_or, sum, sum_by}
+use Rattle.std.specs.Borrow.{Bor}
 use Rattle.std.specs.Option.{option_map_or}
 use Rattle.arrow2_model.specs.Buffers.{buffer_items}
 use Rattle.arrow2_offset.specs.Offsets.{lengths_of}
@@ -25,16 +26,16 @@ abbrev pub binary_item : BinaryParts → ℕ → Option (List ℕ)
 binary_item a index = slice_index_or (binary_items a) index None
 
 -- the items of an array, followed by the items of other arrays
-abbrev pub joined_items : {X : Type 0} → (X → BinaryParts) → BinaryParts → List X → List (Option (List ℕ))
-joined_items parts first others = binary_items first ++ flat_map (λ array. binary_items (parts array)) others
+abbrev pub joined_items : BinaryParts → List (Bor BinaryParts) → List (Option (List ℕ))
+joined_items first others = binary_items first ++ flat_map (λ array. binary_items array.now) others
 
 -- the number of bytes of the slots of all these arrays, under nulls too
-abbrev pub joined_bytes : {X : Type 0} → (X → BinaryParts) → BinaryParts → List X → ℕ
-joined_bytes parts first others = slot_bytes first + sum_by (λ array. slot_bytes (parts array)) others
+abbrev pub joined_bytes : BinaryParts → List (Bor BinaryParts) → ℕ
+joined_bytes first others = slot_bytes first + sum_by (λ array. slot_bytes array.now) others
 
 -- all these arrays together have more bytes than `greatest`, under nulls too, or more items than a `usize` can count
-abbrev pub AreTooLarge : {X : Type 0} → ℕ → (X → BinaryParts) → BinaryParts → List X → Type 0
-AreTooLarge greatest parts first others = (greatest < joined_bytes parts first others) ⊎ (2 ^ 64 ≤ length (joined_items parts first others))
+abbrev pub AreTooLarge : ℕ → BinaryParts → List (Bor BinaryParts) → Type 0
+AreTooLarge greatest first others = (greatest < joined_bytes first others) ⊎ (2 ^ 64 ≤ length (joined_items first others))
 
 -- growth by one item
 abbrev pub AppendsItem : {T : Type 0} → ℕ → Result T Error → (old new : GrowingBinary) → Option (List ℕ) → Type 0

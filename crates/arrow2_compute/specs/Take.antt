@@ -15,6 +15,10 @@ item_at value items (Some index) = slice_index_or items (unsigned_abs (value ind
 abbrev pub items_by_index : {I X : Type 0} → (I → ℤ) → List (Option X) → List (Option I) → List (Option X)
 items_by_index value items indices = map (item_at value items) indices
 
+-- what a function returns is always the outcome
+abbrev pub ReturnsAlways : {X Y : Type 0} → (X → Y → Type 0) → (X → Y) → Type 0
+ReturnsAlways {X} {Y} returns outcome = (x : X) (y : Y) → returns x y → y ≡ outcome x
+
 -- `x` is the item at `index`
 abbrev pub IsItemAt : {X : Type 0} → List X → ℕ → X → Type 0
 IsItemAt items index x = slice_index_or items index x ≡ x

@@ -10,40 +10,43 @@ ghost use Rattle.arrow2_numeric.specs.Aggregates.{best_from, IsExtremum};
 ghost use Rattle.arrow2_text.specs.Binary.{binary_items};
 ghost use Rattle.arrow2_walks.specs.Selections.{non_null_values};
 
-use crate::binary::Binary;
 use arrow2_array::BooleanArray;
+use arrow2_index::Offset;
+use arrow2_text::{ByteArrayType, GenericByteArray};
 
 /// Returns the bytes of the least of the items that are not null, or `None` where each item is null. The order is that
 /// of [`crate::comparison::binary`]: the first bytes that differ decide, else the lengths. Does not allocate.
 ///
 /// Stands for arrow2's `min_binary` and `min_string`.
-pub fn min_binary<A: Binary>(array: &A) -> Option<&[u8]>
-    ensures { IsExtremum (λ x y. IsTrue (partial_le bytes_cmp x y)) (binary_items (A.parts array.now))
+pub fn min_binary<T: ByteArrayType, O: Offset>(array: &GenericByteArray<T, O>) -> Option<&[u8]>
+    ensures { IsExtremum (λ x y. IsTrue (partial_le bytes_cmp x y)) (binary_items array.now)
         (option_copied result) }
 {
-    best_item::<A, Lesser>(array)
+    best_item::<T, O, Lesser>(array)
 }
 
 /// Returns the bytes of the greatest of the items that are not null, or `None` where each item is null. The order is
 /// that of [`crate::comparison::binary`]: the first bytes that differ decide, else the lengths. Does not allocate.
 ///
 /// Stands for arrow2's `max_binary` and `max_string`.
-pub fn max_binary<A: Binary>(array: &A) -> Option<&[u8]>
-    ensures { IsExtremum (λ x y. IsTrue (partial_ge bytes_cmp x y)) (binary_items (A.parts array.now))
+pub fn max_binary<T: ByteArrayType, O: Offset>(array: &GenericByteArray<T, O>) -> Option<&[u8]>
+    ensures { IsExtremum (λ x y. IsTrue (partial_ge bytes_cmp x y)) (binary_items array.now)
         (option_copied result) }
 {
-    best_item::<A, Greater>(array)
+    best_item::<T, O, Greater>(array)
 }
 
 /// Combines the items that are not null by `C::of_two`, from the first to the last. Returns `None` where each item is
 /// null.
-fn best_item<A: Binary, C: Choice>(array: &A) -> Option<&[u8]>
+fn best_item<T: ByteArrayType, O: Offset, C: Choice>(
+    array: &GenericByteArray<T, O>,
+) -> Option<&[u8]>
     ensures { option_copied result
-        ≡ best_from C.kept None (non_null_values (binary_items (A.parts array.now))) }
+        ≡ best_from C.kept None (non_null_values (binary_items array.now)) }
 {
     let mut best = None;
-    for index in 0..array.count() {
-        if let Some(value) = array.item(index) {
+    for index in 0..array.len() {
+        if let Some(value) = array.get_bytes(index) {
             best = Some(match best {
                 Some(best) => C::of_two(best, value),
                 None => value,

@@ -1,18 +1,19 @@
 //! Which items of an array are null.
-ghost use Rattle.std.specs.Prelude.{◌≡◌, Bool, List, Some, map, not, IfOk, IfErr, IfSome, IsNone};
+ghost use Rattle.std.specs.Prelude.{◌≡◌, Bool, List, Some, map, not, IfOk, IfSome, IsNone};
 ghost use Rattle.std.specs.Option.{is_some};
 ghost use Rattle.arrow2_model.specs.Storage.{items_of};
 ghost use Rattle.arrow2_array.specs.Items.{boolean_items};
 ghost use Rattle.arrow2_primitive.specs.Primitive.{primitive_items};
 ghost use Rattle.arrow2_text.specs.Binary.{binary_items};
 ghost use Rattle.arrow2_validity.specs.OptionalValidity.{OptionalValidity, valid_items};
+ghost use Rattle.arrow2_types.specs.Failures.{OnlyOutOfMemory};
 
 use arrow2_array::BooleanArray;
 use arrow2_bitmap::{Bitmap, MutableBitmap};
 use arrow2_index::Offset;
 use arrow2_primitive::PrimitiveArray;
-use arrow2_text::{BinaryArray, Utf8Array};
-use arrow2_types::{Error, NativeType, Result};
+use arrow2_text::{ByteArrayType, GenericByteArray};
+use arrow2_types::{NativeType, Result};
 use arrow2_validity::Validity;
 use std::alloc::Global;
 use std::convert::TryFrom;
@@ -62,21 +63,7 @@ impl Nullable for BooleanArray {
     }
 }
 
-impl<O: Offset> Nullable for BinaryArray<O> {
-    ghost stored = { λ a. a.validity };
-
-    ghost known = { λ a. map is_some (binary_items a) };
-
-    fn known_validity(&self) -> &Validity {
-        self.optional_validity()
-    }
-
-    fn allocator(&self) -> Global {
-        self.values().allocator()
-    }
-}
-
-impl<O: Offset> Nullable for Utf8Array<O> {
+impl<T: ByteArrayType, O: Offset> Nullable for GenericByteArray<T, O> {
     ghost stored = { λ a. a.validity };
 
     ghost known = { λ a. map is_some (binary_items a) };
@@ -100,7 +87,7 @@ impl<O: Offset> Nullable for Utf8Array<O> {
 pub fn is_null<A: Nullable>(array: &A) -> Result<BooleanArray>
     ensures items { IfOk result (λ a. boolean_items a ≡ map (λ known. Some (not known)) (A.known array.now)) }
     ensures validity { IfOk result (λ a. IsNone a.validity.bitmap) }
-    ensures only { IfErr result (λ e. e ≡ Error.OutOfMemory) }
+    ensures only { OnlyOutOfMemory result }
 {
     let nulls = nulls_of(array.allocator(), array.known_validity())?;
     Ok(BooleanArray::new(nulls, None))
@@ -118,7 +105,7 @@ pub fn is_not_null<A: Nullable>(array: &A) -> Result<BooleanArray>
     ensures items { IfOk result (λ a. boolean_items a ≡ map (λ known. Some known) (A.known array.now)) }
     ensures values { IfSome (A.stored array.now).bitmap (λ bitmap. IfOk result (λ a. a.values ≡ bitmap)) }
     ensures validity { IfOk result (λ a. IsNone a.validity.bitmap) }
-    ensures only { IfErr result (λ e. e ≡ Error.OutOfMemory) }
+    ensures only { OnlyOutOfMemory result }
 {
     let known = known_of(array.allocator(), array.known_validity())?;
     Ok(BooleanArray::new(known, None))
@@ -127,7 +114,7 @@ pub fn is_not_null<A: Nullable>(array: &A) -> Result<BooleanArray>
 /// Returns, for each item of an array with this validity, whether it is null.
 fn nulls_of(alloc: Global, validity: &Validity) -> Result<Bitmap>
     ensures items { IfOk result (λ b. items_of b ≡ map not (valid_items validity.now)) }
-    ensures only { IfErr result (λ e. e ≡ Error.OutOfMemory) }
+    ensures only { OnlyOutOfMemory result }
 {
     match validity.bitmap() {
         Some(bitmap) => !bitmap,
@@ -139,7 +126,7 @@ fn nulls_of(alloc: Global, validity: &Validity) -> Result<Bitmap>
 fn known_of(alloc: Global, validity: &Validity) -> Result<Bitmap>
     ensures items { IfOk result (λ b. items_of b ≡ valid_items validity.now) }
     ensures same { IfSome validity.now.bitmap (λ bitmap. IfOk result (λ b. b ≡ bitmap)) }
-    ensures only { IfErr result (λ e. e ≡ Error.OutOfMemory) }
+    ensures only { OnlyOutOfMemory result }
 {
     match validity.bitmap() {
         Some(bitmap) => Ok(bitmap.clone()?),

@@ -1,5 +1,5 @@
 //! The items of several arrays, one after the other.
-ghost use Rattle.std.specs.Prelude.{◌≡◌, ◌+◌, ◌<◌, ◌≤◌, ◌^◌, ◌⊎◌, ◌++◌, length, IfOk, IfErr, IsErrOf, OnOk, ◌↔◌, IsNone, count_by};
+ghost use Rattle.std.specs.Prelude.{◌≡◌, ◌+◌, ◌<◌, ◌≤◌, ◌^◌, ◌++◌, length, IfOk, IsErrOf, OnOk, ◌↔◌, IsNone, count_by};
 ghost use Rattle.std.specs.List.{flat_map};
 ghost use Rattle.arrow2_array.specs.Items.{boolean_items, nulls};
 ghost use Rattle.arrow2_compute.specs.Sizes.{AreTooLarge, joined_bytes, joined_items};
@@ -7,10 +7,13 @@ ghost use Rattle.arrow2_model.specs.Buffers.{buffer_items};
 ghost use Rattle.arrow2_primitive.specs.Primitive.{primitive_items};
 ghost use Rattle.arrow2_text.specs.Binary.{IsCompact, binary_items};
 ghost use Rattle.std.specs.Option.{is_none};
+ghost use Rattle.arrow2_types.specs.Failures.{OnlyOverflowOrOutOfMemory};
 
-use crate::binary::Binary;
+use crate::binary::{count, like};
 use arrow2_array::{BooleanArray, MutableBooleanArray};
+use arrow2_index::Offset;
 use arrow2_primitive::{MutablePrimitiveArray, PrimitiveArray};
+use arrow2_text::{ByteArrayType, GenericByteArray};
 use arrow2_types::{Error, NativeType, Result};
 
 /// Returns the items of `first` and then of each of `others`, one after the other, with the logical type of `first`.
@@ -34,7 +37,7 @@ pub fn concatenate<T: NativeType>(
         ++ flat_map (λ array. primitive_items array.now) others.now) }
     ensures bitmap { IfOk result (λ a.
         IsNone a.validity.bitmap ↔ (count_by is_none (primitive_items a) ≡ 0)) }
-    ensures only { IfErr result (λ e. (e ≡ Error.Overflow) ⊎ (e ≡ Error.OutOfMemory)) }
+    ensures only { OnlyOverflowOrOutOfMemory result }
 {
     let mut joined = MutablePrimitiveArray::like(first)?;
     joined.extend_from_array(first, 0, first.len())?;
@@ -55,29 +58,32 @@ pub fn concatenate<T: NativeType>(
 /// If all slots together, null slots too, have more bytes than an offset of the arrays can count, or if a `usize`
 /// cannot count the items, it fails with `Overflow` or `OutOfMemory`. Otherwise the only error is `OutOfMemory`.
 #[tactic(auto, using(crate::proofs::KernelLoops::joining))]
-pub fn concatenate_binary<A: Binary>(first: &A, others: &[&A]) -> Result<A>
+pub fn concatenate_binary<T: ByteArrayType, O: Offset>(
+    first: &GenericByteArray<T, O>,
+    others: &[&GenericByteArray<T, O>],
+) -> Result<GenericByteArray<T, O>>
     // The items of all arrays in turn, the logical type, and how the items are stored.
     ensures items { IfOk result (λ a.
-        binary_items (A.parts a) ≡ joined_items (λ array. A.parts array.now) (A.parts first.now) others.now) }
-    ensures data_type { IfOk result (λ a. (A.parts a).data_type ≡ (A.parts first.now).data_type) }
-    ensures compact { IfOk result (λ a. IsCompact (A.parts a)) }
-    ensures bytes { IfOk result (λ a. length (buffer_items (A.parts a).values)
-        ≡ joined_bytes (λ array. A.parts array.now) (A.parts first.now) others.now) }
+        binary_items a ≡ joined_items first.now others.now) }
+    ensures data_type { IfOk result (λ a. a.data_type ≡ first.now.data_type) }
+    ensures compact { IfOk result (λ a. IsCompact a) }
+    ensures bytes { IfOk result (λ a. length (buffer_items a.values)
+        ≡ joined_bytes first.now others.now) }
     // When `Overflow` may come, what fits after `Ok`, and which errors can come.
     ensures overflow { IsErrOf result Error.Overflow →
-        AreTooLarge A.GREATEST (λ array. A.parts array.now) (A.parts first.now) others.now }
+        AreTooLarge O.MAX first.now others.now }
     ensures fits { OnOk result
-        ((joined_bytes (λ array. A.parts array.now) (A.parts first.now) others.now ≤ A.GREATEST)
-        × (length (joined_items (λ array. A.parts array.now) (A.parts first.now) others.now) < 2 ^ 64)) }
-    ensures only { IfErr result (λ e. (e ≡ Error.Overflow) ⊎ (e ≡ Error.OutOfMemory)) }
+        ((joined_bytes first.now others.now ≤ O.MAX)
+        × (length (joined_items first.now others.now) < 2 ^ 64)) }
+    ensures only { OnlyOverflowOrOutOfMemory result }
 {
-    let count = first.count();
-    let mut joined = first.like(count)?;
-    A::push_items(&mut joined, first, 0, count)?;
+    let len = count(first);
+    let mut joined = like(first, len)?;
+    joined.extend_from_array(first, 0, len)?;
     for array in others {
-        A::push_items(&mut joined, *array, 0, array.count())?;
+        joined.extend_from_array(array, 0, count(*array))?;
     }
-    A::freeze(joined)
+    joined.freeze()
 }
 
 /// Returns the booleans of `first` and then of each of `others`, one after the other. The result has a validity bitmap
@@ -95,7 +101,7 @@ pub fn concatenate_boolean(first: &BooleanArray, others: &[&BooleanArray]) -> Re
     ensures overflow { IsErrOf result Error.Overflow → 2 ^ 64 ≤ length (boolean_items first.now
         ++ flat_map (λ array. boolean_items array.now) others.now) }
     ensures bitmap { IfOk result (λ a. IsNone a.validity.bitmap ↔ (nulls (boolean_items a) ≡ 0)) }
-    ensures only { IfErr result (λ e. (e ≡ Error.Overflow) ⊎ (e ≡ Error.OutOfMemory)) }
+    ensures only { OnlyOverflowOrOutOfMemory result }
 {
     let mut items = MutableBooleanArray::new(first.values().allocator());
     items.extend_from_array(first, 0, first.len())?;

@@ -1,5 +1,5 @@
 //! The items that a mask selects.
-ghost use Rattle.std.specs.Prelude.{◌≡◌, ◌+◌, ◌<◌, ◌≤◌, ◌^◌, ◌++◌, length, map, sum, IfOk, IfErr, IfSome, OnOk, ◌↔◌, IsNone};
+ghost use Rattle.std.specs.Prelude.{◌≡◌, ◌+◌, ◌<◌, ◌≤◌, ◌^◌, ◌++◌, length, map, sum, IfOk, IfSome, OnOk, ◌↔◌, IsNone};
 ghost use Rattle.arrow2_array.specs.Items.{boolean_items};
 ghost use Rattle.arrow2_bitmap.specs.PackedBitmaps.{IsPacked};
 ghost use Rattle.arrow2_compute.specs.Masks.{is_true};
@@ -10,18 +10,21 @@ ghost use Rattle.arrow2_model.specs.Storage.{items_of};
 ghost use Rattle.arrow2_offset.specs.Offsets.{lengths_of};
 ghost use Rattle.arrow2_primitive.specs.Primitive.{primitive_items};
 ghost use Rattle.arrow2_text.specs.Binary.{IsCompact, binary_items};
+ghost use Rattle.arrow2_types.specs.Failures.{OnlyOutOfMemory};
 ghost use Rattle.arrow2_validity.specs.OptionalValidity.{valid_items};
 ghost use Rattle.arrow2_walks.specs.Selections.{selection};
 
-use crate::binary::Binary;
+use crate::binary::{count, like, without_validity};
 use arrow2_array::BooleanArray;
 use arrow2_bitmap::bitmap_ops::and;
 use arrow2_bitmap::{Bitmap, MutableBitmap};
 use arrow2_buffer::Buffer;
 use arrow2_chunk::{BitChunk, BitChunkOnes};
+use arrow2_index::Offset;
 use arrow2_numeric::MaskedBlocks;
 use arrow2_primitive::PrimitiveArray;
-use arrow2_types::{Error, NativeType, Result};
+use arrow2_text::{ByteArrayType, GenericByteArray};
+use arrow2_types::{NativeType, Result};
 use arrow2_validity::Validity;
 use arrow2_walks::{SlicesIterator, laws};
 use std::alloc::AllocError;
@@ -41,7 +44,7 @@ pub fn filter<T: NativeType>(array: &PrimitiveArray<T>, mask: &Bitmap) -> Result
         primitive_items a ≡ selection (primitive_items array.now) (items_of mask.now)) }
     ensures data_type { IfOk result (λ a. a.data_type ≡ array.now.data_type) }
     ensures bitmap { IfOk result (λ a. IsNone a.validity.bitmap ↔ IsNone array.now.validity.bitmap) }
-    ensures only { IfErr result (λ e. e ≡ Error.OutOfMemory) }
+    ensures only { OnlyOutOfMemory result }
 {
     let data_type = array.data_type().clone()?;
     let values = Buffer::try_from(selected_values(array.values().as_slice(), mask)?)?;
@@ -94,7 +97,7 @@ fn selected_validity(validity: &Validity, mask: &Bitmap) -> Result<Validity>
     ensures len { IfOk result (λ v. v.len + falses (items_of mask.now) ≡ length (items_of mask.now)) }
     ensures bitmap { IfOk result (λ v. IsNone v.bitmap ↔ IsNone validity.now.bitmap) }
     ensures packed { IfOk result (λ v. IfSome v.bitmap (λ b. IsPacked b)) }
-    ensures only { IfErr result (λ e. e ≡ Error.OutOfMemory) }
+    ensures only { OnlyOutOfMemory result }
 {
     let count = mask.len() - mask.unset_bits();
     let Some(bitmap) = validity.bitmap() else {
@@ -109,7 +112,7 @@ fn selected_bits(bitmap: &Bitmap, mask: &Bitmap) -> Result<Bitmap>
     requires same_length { length (items_of mask.now) ≡ length (items_of bitmap.now) }
     ensures items { IfOk result (λ b. items_of b ≡ selection (items_of bitmap.now) (items_of mask.now)) }
     ensures packed { IfOk result (λ b. IsPacked b) }
-    ensures only { IfErr result (λ e. e ≡ Error.OutOfMemory) }
+    ensures only { OnlyOutOfMemory result }
 {
     let mut kept = MutableBitmap::with_capacity(mask.allocator(), mask.len() - mask.unset_bits())?;
     let mut words = mask.chunks::<u64>();
@@ -129,7 +132,7 @@ fn selected_bits(bitmap: &Bitmap, mask: &Bitmap) -> Result<Bitmap>
 fn push_bits(kept: &mut MutableBitmap, block: u64, word: u64) -> Result<()>
     requires fits { length kept.old.items + length (selection (unnum 64 block) (unnum 64 word)) < 2 ^ 64 }
     ensures ok { OnOk result (kept.new.items ≡ kept.old.items ++ selection (unnum 64 block) (unnum 64 word)) }
-    ensures only { IfErr result (λ e. e ≡ Error.OutOfMemory) }
+    ensures only { OnlyOutOfMemory result }
 {
     if word == u64::MAX {
         return kept.extend_from_slice(&BitChunk::to_ne_bytes(block), 0, 64);
@@ -158,7 +161,7 @@ pub fn filter_by_array<T: NativeType>(
         ≡ selection (primitive_items array.now) (map is_true (boolean_items mask.now))) }
     ensures data_type { IfOk result (λ a. a.data_type ≡ array.now.data_type) }
     ensures bitmap { IfOk result (λ a. IsNone a.validity.bitmap ↔ IsNone array.now.validity.bitmap) }
-    ensures only { IfErr result (λ e. e ≡ Error.OutOfMemory) }
+    ensures only { OnlyOutOfMemory result }
 {
     filter(array, &true_items(mask)?)
 }
@@ -166,7 +169,7 @@ pub fn filter_by_array<T: NativeType>(
 /// Returns, for each item of the mask, whether it is true and not null.
 fn true_items(mask: &BooleanArray) -> Result<Bitmap>
     ensures items { IfOk result (λ b. items_of b ≡ map is_true (boolean_items mask.now)) }
-    ensures only { IfErr result (λ e. e ≡ Error.OutOfMemory) }
+    ensures only { OnlyOutOfMemory result }
 {
     match mask.optional_validity().bitmap() {
         Some(bitmap) => and(mask.values(), bitmap),
@@ -183,19 +186,22 @@ fn true_items(mask: &BooleanArray) -> Result<Bitmap>
 /// # Errors
 ///
 /// Only `OutOfMemory`.
-pub fn filter_binary<A: Binary>(array: &A, mask: &Bitmap) -> Result<A>
-    requires same_length { length (items_of mask.now) ≡ length (binary_items (A.parts array.now)) }
-    ensures items { IfOk result (λ a. binary_items (A.parts a)
-        ≡ selection (binary_items (A.parts array.now)) (items_of mask.now)) }
-    ensures data_type { IfOk result (λ a. (A.parts a).data_type ≡ (A.parts array.now).data_type) }
-    ensures compact { IfOk result (λ a. IsCompact (A.parts a)) }
+pub fn filter_binary<T: ByteArrayType, O: Offset>(
+    array: &GenericByteArray<T, O>,
+    mask: &Bitmap,
+) -> Result<GenericByteArray<T, O>>
+    requires same_length { length (items_of mask.now) ≡ length (binary_items array.now) }
+    ensures items { IfOk result (λ a. binary_items a
+        ≡ selection (binary_items array.now) (items_of mask.now)) }
+    ensures data_type { IfOk result (λ a. a.data_type ≡ array.now.data_type) }
+    ensures compact { IfOk result (λ a. IsCompact a) }
     // The number of bytes of the selected slots, of null slots too.
-    ensures bytes { IfOk result (λ a. length (buffer_items (A.parts a).values) ≡ sum (selection
-        (lengths_of (buffer_items (A.parts array.now).offsets)) (items_of mask.now))) }
-    ensures only { IfErr result (λ e. e ≡ Error.OutOfMemory) }
+    ensures bytes { IfOk result (λ a. length (buffer_items a.values) ≡ sum (selection
+        (lengths_of (buffer_items array.now.offsets)) (items_of mask.now))) }
+    ensures only { OnlyOutOfMemory result }
 {
     let validity = selected_validity(array.optional_validity(), mask)?;
-    let kept = selected_slots(&array.without_validity()?, mask)?;
+    let kept = selected_slots(&without_validity(array)?, mask)?;
     // For the proof alone: reading the validity brings the fact that it has an item for each slot.
     let _ = kept.optional_validity();
     Ok(kept.with_validity(validity.into_null_bitmap()))
@@ -211,39 +217,45 @@ pub fn filter_binary<A: Binary>(array: &A, mask: &Bitmap) -> Result<A>
 /// # Errors
 ///
 /// Only `OutOfMemory`.
-pub fn filter_binary_by_array<A: Binary>(array: &A, mask: &BooleanArray) -> Result<A>
-    requires same_length { length (boolean_items mask.now) ≡ length (binary_items (A.parts array.now)) }
-    ensures items { IfOk result (λ a. binary_items (A.parts a)
-        ≡ selection (binary_items (A.parts array.now)) (map is_true (boolean_items mask.now))) }
-    ensures data_type { IfOk result (λ a. (A.parts a).data_type ≡ (A.parts array.now).data_type) }
-    ensures compact { IfOk result (λ a. IsCompact (A.parts a)) }
+pub fn filter_binary_by_array<T: ByteArrayType, O: Offset>(
+    array: &GenericByteArray<T, O>,
+    mask: &BooleanArray,
+) -> Result<GenericByteArray<T, O>>
+    requires same_length { length (boolean_items mask.now) ≡ length (binary_items array.now) }
+    ensures items { IfOk result (λ a. binary_items a
+        ≡ selection (binary_items array.now) (map is_true (boolean_items mask.now))) }
+    ensures data_type { IfOk result (λ a. a.data_type ≡ array.now.data_type) }
+    ensures compact { IfOk result (λ a. IsCompact a) }
     // The number of bytes of the selected slots, of null slots too.
-    ensures bytes { IfOk result (λ a. length (buffer_items (A.parts a).values) ≡ sum (selection
-        (lengths_of (buffer_items (A.parts array.now).offsets)) (map is_true (boolean_items mask.now)))) }
-    ensures only { IfErr result (λ e. e ≡ Error.OutOfMemory) }
+    ensures bytes { IfOk result (λ a. length (buffer_items a.values) ≡ sum (selection
+        (lengths_of (buffer_items array.now.offsets)) (map is_true (boolean_items mask.now)))) }
+    ensures only { OnlyOutOfMemory result }
 {
     filter_binary(array, &true_items(mask)?)
 }
 
 /// Returns the items at whose index the mask is true, copied run by run. Requires that both have equal lengths.
-fn selected_slots<A: Binary>(array: &A, mask: &Bitmap) -> Result<A>
-    requires same_length { length (items_of mask.now) ≡ length (binary_items (A.parts array.now)) }
-    ensures items { IfOk result (λ a. binary_items (A.parts a)
-        ≡ selection (binary_items (A.parts array.now)) (items_of mask.now)) }
-    ensures data_type { IfOk result (λ a. (A.parts a).data_type ≡ (A.parts array.now).data_type) }
-    ensures compact { IfOk result (λ a. IsCompact (A.parts a)) }
-    ensures bytes { IfOk result (λ a. length (buffer_items (A.parts a).values) ≡ sum (selection
-        (lengths_of (buffer_items (A.parts array.now).offsets)) (items_of mask.now))) }
-    ensures only { IfErr result (λ e. e ≡ Error.OutOfMemory) }
+fn selected_slots<T: ByteArrayType, O: Offset>(
+    array: &GenericByteArray<T, O>,
+    mask: &Bitmap,
+) -> Result<GenericByteArray<T, O>>
+    requires same_length { length (items_of mask.now) ≡ length (binary_items array.now) }
+    ensures items { IfOk result (λ a. binary_items a
+        ≡ selection (binary_items array.now) (items_of mask.now)) }
+    ensures data_type { IfOk result (λ a. a.data_type ≡ array.now.data_type) }
+    ensures compact { IfOk result (λ a. IsCompact a) }
+    ensures bytes { IfOk result (λ a. length (buffer_items a.values) ≡ sum (selection
+        (lengths_of (buffer_items array.now.offsets)) (items_of mask.now))) }
+    ensures only { OnlyOutOfMemory result }
 {
     laws::runs_lie_inside();
-    let count = array.count();
-    prove!(mask.len() == count);
-    let mut kept = array.like(mask.len() - mask.unset_bits())?;
+    let len = count(array);
+    prove!(mask.len() == len);
+    let mut kept = like(array, mask.len() - mask.unset_bits())?;
     for (start, len) in SlicesIterator::new(mask) {
-        A::push_items(&mut kept, array, start, len)?;
+        kept.extend_from_array(array, start, len)?;
     }
-    A::freeze(kept)
+    kept.freeze()
 }
 
 /// Returns the booleans at whose index the mask is true. The result has a validity bitmap exactly if `array` has one.
@@ -259,7 +271,7 @@ pub fn filter_boolean(array: &BooleanArray, mask: &Bitmap) -> Result<BooleanArra
     ensures items { IfOk result (λ a.
         boolean_items a ≡ selection (boolean_items array.now) (items_of mask.now)) }
     ensures bitmap { IfOk result (λ a. IsNone a.validity.bitmap ↔ IsNone array.now.validity.bitmap) }
-    ensures only { IfErr result (λ e. e ≡ Error.OutOfMemory) }
+    ensures only { OnlyOutOfMemory result }
 {
     let values = selected_bits(array.values(), mask)?;
     let validity = selected_validity(array.optional_validity(), mask)?;
@@ -279,7 +291,7 @@ pub fn filter_boolean_by_array(array: &BooleanArray, mask: &BooleanArray) -> Res
     ensures items { IfOk result (λ a. boolean_items a
         ≡ selection (boolean_items array.now) (map is_true (boolean_items mask.now))) }
     ensures bitmap { IfOk result (λ a. IsNone a.validity.bitmap ↔ IsNone array.now.validity.bitmap) }
-    ensures only { IfErr result (λ e. e ≡ Error.OutOfMemory) }
+    ensures only { OnlyOutOfMemory result }
 {
     filter_boolean(array, &true_items(mask)?)
 }

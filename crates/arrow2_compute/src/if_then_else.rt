@@ -1,5 +1,5 @@
 //! Chooses, index by index, the item of one array or that of another.
-ghost use Rattle.std.specs.Prelude.{◌≡◌, ◌<◌, ◌≤◌, ◌⊎◌, [], None, length, sum_by, if◌then◌else◌, IfOk, IfErr, IsErrOf, OnOk, ◌↔◌, IsNone, Some};
+ghost use Rattle.std.specs.Prelude.{◌≡◌, ◌<◌, ◌≤◌, [], None, length, sum_by, if◌then◌else◌, IfOk, IsErrOf, OnOk, ◌↔◌, IsNone, Some};
 ghost use Rattle.arrow2_array.specs.Items.{boolean_items};
 ghost use Rattle.arrow2_model.specs.Buffers.{buffer_items};
 ghost use Rattle.arrow2_model.specs.Storage.{items_of};
@@ -8,13 +8,16 @@ ghost use Rattle.arrow2_primitive.specs.Primitive.{primitive_items};
 ghost use Rattle.arrow2_text.specs.Binary.{IsCompact, binary_items};
 ghost use Rattle.arrow2_validity.specs.OptionalValidity.{valid_items};
 ghost use Rattle.arrow2_walks.specs.Selections.{choice};
+ghost use Rattle.arrow2_types.specs.Failures.{OnlyOutOfMemory, OnlyOverflowOrOutOfMemory};
 
-use crate::binary::Binary;
+use crate::binary::{like, push_item};
 use arrow2_array::BooleanArray;
 use arrow2_bitmap::Bitmap;
 use arrow2_bitmap::bitmap_ops::{and, binary_table, or};
 use arrow2_buffer::Buffer;
+use arrow2_index::Offset;
 use arrow2_primitive::PrimitiveArray;
+use arrow2_text::{ByteArrayType, GenericByteArray, MutableGenericByteArray};
 use arrow2_types::{Error, NativeType, Result};
 use arrow2_validity::Validity;
 use std::alloc::AllocError;
@@ -41,7 +44,7 @@ pub fn if_then_else<T: NativeType>(
     ensures data_type { IfOk result (λ a. a.data_type ≡ lhs.now.data_type) }
     ensures bitmap { IfOk result (λ a.
         IsNone a.validity.bitmap ↔ (IsNone lhs.now.validity.bitmap × IsNone rhs.now.validity.bitmap)) }
-    ensures only { IfErr result (λ e. e ≡ Error.OutOfMemory) }
+    ensures only { OnlyOutOfMemory result }
 {
     let data_type = lhs.data_type().clone()?;
     let values = chosen_values(mask, lhs.values().as_slice(), rhs.values().as_slice())?;
@@ -86,7 +89,7 @@ fn chosen_validity(mask: &Bitmap, lhs: &Validity, rhs: &Validity) -> Result<Vali
     ensures len { IfOk result (λ v. v.len ≡ length (items_of mask.now)) }
     ensures bitmap { IfOk result (λ v.
         IsNone v.bitmap ↔ (IsNone lhs.now.bitmap × IsNone rhs.now.bitmap)) }
-    ensures only { IfErr result (λ e. e ≡ Error.OutOfMemory) }
+    ensures only { OnlyOutOfMemory result }
 {
     match (lhs.bitmap(), rhs.bitmap()) {
         (Some(left), Some(right)) => Ok(by_bits(chosen_bits(mask, left, right)?)),
@@ -113,7 +116,7 @@ fn chosen_bits(mask: &Bitmap, lhs: &Bitmap, rhs: &Bitmap) -> Result<Bitmap>
     ensures items { IfOk result (λ b.
         items_of b ≡ choice (items_of mask.now) (items_of lhs.now) (items_of rhs.now)) }
     ensures len { IfOk result (λ b. length (items_of b) ≡ length (items_of mask.now)) }
-    ensures only { IfErr result (λ e. e ≡ Error.OutOfMemory) }
+    ensures only { OnlyOutOfMemory result }
 {
     let left = and(mask, lhs)?;
     let right = binary_table(mask, rhs, 0b0100)?;
@@ -131,49 +134,53 @@ fn chosen_bits(mask: &Bitmap, lhs: &Bitmap, rhs: &Bitmap) -> Result<Bitmap>
 /// If the chosen items together have more bytes than an offset of the arrays can count, it fails with `Overflow` or
 /// `OutOfMemory`. Otherwise the only error is `OutOfMemory`.
 #[tactic(auto, using(crate::proofs::ByteCounts::weighed))]
-pub fn if_then_else_binary<A: Binary>(mask: &Bitmap, lhs: &A, rhs: &A) -> Result<A>
+pub fn if_then_else_binary<T: ByteArrayType, O: Offset>(
+    mask: &Bitmap,
+    lhs: &GenericByteArray<T, O>,
+    rhs: &GenericByteArray<T, O>,
+) -> Result<GenericByteArray<T, O>>
     // Both arrays have the length of the mask.
-    requires left { length (items_of mask.now) ≡ length (binary_items (A.parts lhs.now)) }
-    requires right { length (items_of mask.now) ≡ length (binary_items (A.parts rhs.now)) }
+    requires left { length (items_of mask.now) ≡ length (binary_items lhs.now) }
+    requires right { length (items_of mask.now) ≡ length (binary_items rhs.now) }
     // The chosen items, the logical type of `lhs`, and how the items are stored.
-    ensures items { IfOk result (λ a. binary_items (A.parts a) ≡ choice (items_of mask.now)
-        (binary_items (A.parts lhs.now)) (binary_items (A.parts rhs.now))) }
-    ensures data_type { IfOk result (λ a. (A.parts a).data_type ≡ (A.parts lhs.now).data_type) }
-    ensures compact { IfOk result (λ a. IsCompact (A.parts a)) }
-    ensures bytes { IfOk result (λ a. length (buffer_items (A.parts a).values) ≡ sum_by item_bytes
-        (choice (items_of mask.now) (binary_items (A.parts lhs.now)) (binary_items (A.parts rhs.now)))) }
+    ensures items { IfOk result (λ a. binary_items a ≡ choice (items_of mask.now)
+        (binary_items lhs.now) (binary_items rhs.now)) }
+    ensures data_type { IfOk result (λ a. a.data_type ≡ lhs.now.data_type) }
+    ensures compact { IfOk result (λ a. IsCompact a) }
+    ensures bytes { IfOk result (λ a. length (buffer_items a.values) ≡ sum_by item_bytes
+        (choice (items_of mask.now) (binary_items lhs.now) (binary_items rhs.now))) }
     // When it fails since an offset cannot count their bytes, and which errors can come.
-    ensures overflow { IsErrOf result Error.Overflow → A.GREATEST < sum_by item_bytes
-        (choice (items_of mask.now) (binary_items (A.parts lhs.now)) (binary_items (A.parts rhs.now))) }
+    ensures overflow { IsErrOf result Error.Overflow → O.MAX < sum_by item_bytes
+        (choice (items_of mask.now) (binary_items lhs.now) (binary_items rhs.now)) }
     ensures fits { OnOk result (sum_by item_bytes (choice (items_of mask.now)
-        (binary_items (A.parts lhs.now)) (binary_items (A.parts rhs.now))) ≤ A.GREATEST) }
-    ensures only { IfErr result (λ e. (e ≡ Error.Overflow) ⊎ (e ≡ Error.OutOfMemory)) }
+        (binary_items lhs.now) (binary_items rhs.now)) ≤ O.MAX) }
+    ensures only { OnlyOverflowOrOutOfMemory result }
 {
-    let mut items = lhs.like(mask.len())?;
+    let mut items = like(lhs, mask.len())?;
     for position in 0..mask.len() {
         push_either(&mut items, mask.get_bit(position), lhs, rhs, position)?;
     }
-    A::freeze(items)
+    items.freeze()
 }
 
 /// Appends item `position` of `lhs` where `is_left`, else item `position` of `rhs`. Requires that `position` is below
 /// the length of both.
-fn push_either<A: Binary>(
-    grown: &mut A::Growing,
+fn push_either<T: ByteArrayType, O: Offset>(
+    grown: &mut MutableGenericByteArray<T, O>,
     is_left: bool,
-    lhs: &A,
-    rhs: &A,
+    lhs: &GenericByteArray<T, O>,
+    rhs: &GenericByteArray<T, O>,
     position: usize,
 ) -> Result<()>
-    requires left { position < length (binary_items (A.parts lhs.now)) }
-    requires right { position < length (binary_items (A.parts rhs.now)) }
-    ensures { AppendsItem A.GREATEST result (A.growing grown.old) (A.growing grown.new)
-        (if is_left then binary_item (A.parts lhs.now) position else binary_item (A.parts rhs.now) position) }
+    requires left { position < length (binary_items lhs.now) }
+    requires right { position < length (binary_items rhs.now) }
+    ensures { AppendsItem O.MAX result grown.old grown.new
+        (if is_left then binary_item lhs.now position else binary_item rhs.now position) }
 {
     if is_left {
-        A::push_item(grown, lhs, position)
+        push_item(grown, lhs, position)
     } else {
-        A::push_item(grown, rhs, position)
+        push_item(grown, rhs, position)
     }
 }
 
@@ -196,7 +203,7 @@ pub fn if_then_else_boolean(
         ≡ choice (items_of mask.now) (boolean_items lhs.now) (boolean_items rhs.now)) }
     ensures bitmap { IfOk result (λ a.
         IsNone a.validity.bitmap ↔ (IsNone lhs.now.validity.bitmap × IsNone rhs.now.validity.bitmap)) }
-    ensures only { IfErr result (λ e. e ≡ Error.OutOfMemory) }
+    ensures only { OnlyOutOfMemory result }
 {
     let values = chosen_bits(mask, lhs.values(), rhs.values())?;
     let validity = chosen_validity(mask, lhs.optional_validity(), rhs.optional_validity())?;

@@ -4,7 +4,7 @@
 #![tactic(auto)]
 
 pub mod aggregate;
-pub mod binary;
+mod binary;
 pub mod boolean;
 pub mod comparison;
 pub mod concatenate;

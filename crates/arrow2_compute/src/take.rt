@@ -1,9 +1,9 @@
 //! The items at given indices.
-ghost use Rattle.std.specs.Prelude.{◌≡◌, ◌<◌, ◌≤◌, ◌⊎◌, All, Bool, None, Option, count_by, false, is_some, length, map, slice_index_or, sum_by, IfOk, IfErr, IsErrOf, OnOk, ◌↔◌, IsNone};
+ghost use Rattle.std.specs.Prelude.{◌≡◌, ◌<◌, ◌≤◌, All, Bool, None, Option, count_by, false, is_some, length, map, slice_index_or, sum_by, IfOk, IsErrOf, OnOk, ◌↔◌, IsNone};
 ghost use Rattle.std.specs.List.{AllZip};
 ghost use Rattle.std.specs.Option.{is_none};
 ghost use Rattle.arrow2_array.specs.Items.{boolean_items};
-ghost use Rattle.arrow2_compute.specs.Take.{IsInBoundsOrNull, IsItemAt, item_at, items_by_index};
+ghost use Rattle.arrow2_compute.specs.Take.{IsInBoundsOrNull, IsItemAt, ReturnsAlways, item_at, items_by_index};
 ghost use Rattle.arrow2_compute.specs.Sizes.{AppendsItem, binary_item, item_bytes};
 ghost use Rattle.arrow2_model.specs.Buffers.{buffer_items};
 ghost use Rattle.arrow2_model.specs.Storage.{items_of};
@@ -11,13 +11,15 @@ ghost use Rattle.arrow2_primitive.specs.Primitive.{primitive_items};
 ghost use Rattle.arrow2_text.specs.Binary.{IsCompact, binary_items};
 ghost use Rattle.arrow2_validity.specs.OptionalValidity.{valid_items};
 ghost use Rattle.arrow2_walks.specs.Zipped.{zipped};
+ghost use Rattle.arrow2_types.specs.Failures.{OnlyOutOfMemory, OnlyOverflowOrOutOfMemory};
 
-use crate::binary::Binary;
+use crate::binary::{count, like, push_item};
 use arrow2_array::BooleanArray;
 use arrow2_bitmap::Bitmap;
 use arrow2_buffer::Buffer;
-use arrow2_index::Index;
+use arrow2_index::{Index, Offset};
 use arrow2_primitive::PrimitiveArray;
+use arrow2_text::{ByteArrayType, GenericByteArray, MutableGenericByteArray};
 use arrow2_types::{Error, NativeType, Result};
 use arrow2_validity::Validity;
 use std::alloc::AllocError;
@@ -40,7 +42,7 @@ pub fn take<T: NativeType>(
         ≡ map (λ index. slice_index_or (primitive_items array.now) index None) indices.now) }
     ensures data_type { IfOk result (λ a. a.data_type ≡ array.now.data_type) }
     ensures bitmap { IfOk result (λ a. IsNone a.validity.bitmap ↔ IsNone array.now.validity.bitmap) }
-    ensures only { IfErr result (λ e. e ≡ Error.OutOfMemory) }
+    ensures only { OnlyOutOfMemory result }
 {
     let data_type = array.data_type().clone()?;
     let values = Buffer::try_from(values_at(array.values(), indices)?)?;
@@ -71,7 +73,7 @@ fn validity_at(validity: &Validity, indices: &[usize]) -> Result<Validity>
         ≡ map (λ index. slice_index_or (valid_items validity.now) index false) indices.now) }
     ensures len { IfOk result (λ v. v.len ≡ length indices.now) }
     ensures bitmap { IfOk result (λ v. IsNone v.bitmap ↔ IsNone validity.now.bitmap) }
-    ensures only { IfErr result (λ e. e ≡ Error.OutOfMemory) }
+    ensures only { OnlyOutOfMemory result }
 {
     let Some(bitmap) = validity.bitmap() else {
         return Ok(Validity::all_valid(indices.len()));
@@ -85,7 +87,7 @@ fn bits_at(bitmap: &Bitmap, indices: &[usize]) -> Result<Bitmap>
     ensures items { IfOk result (λ b. items_of b
         ≡ map (λ index. slice_index_or (items_of bitmap.now) index false) indices.now) }
     ensures len { IfOk result (λ b. length (items_of b) ≡ length indices.now) }
-    ensures only { IfErr result (λ e. e ≡ Error.OutOfMemory) }
+    ensures only { OnlyOutOfMemory result }
 {
     Bitmap::from_slice_with(
         bitmap.allocator(),
@@ -116,7 +118,7 @@ pub fn take_by_array<T: NativeType, I: Index>(
     ensures data_type { IfOk result (λ a. a.data_type ≡ array.now.data_type) }
     ensures bitmap { IfOk result (λ a.
         IsNone a.validity.bitmap ↔ (count_by is_none (primitive_items a) ≡ 0)) }
-    ensures only { IfErr result (λ e. e ≡ Error.OutOfMemory) }
+    ensures only { OnlyOutOfMemory result }
 {
     let data_type = array.data_type().clone()?;
     let values = Buffer::try_from(values_by_array(array, indices)?)?;
@@ -152,7 +154,7 @@ fn bits_by_array<T: NativeType, I: Index>(
     requires inside { All (IsInBoundsOrNull I.value (length (primitive_items array.now))) (primitive_items indices.now) }
     ensures items { IfOk result (λ b. items_of b
         ≡ map is_some (items_by_index I.value (primitive_items array.now) (primitive_items indices.now))) }
-    ensures only { IfErr result (λ e. e ≡ Error.OutOfMemory) }
+    ensures only { OnlyOutOfMemory result }
 {
     Bitmap::try_from_fn(
         array.values().allocator(),
@@ -189,27 +191,30 @@ fn item_at<T: NativeType, I: Index>(array: &PrimitiveArray<T>, index: Option<I>)
 /// If the taken items together have more bytes than an offset of the array can count, it fails with `Overflow` or
 /// `OutOfMemory`. Otherwise the only error is `OutOfMemory`.
 #[tactic(auto, using(crate::proofs::ByteCounts::weighed))]
-pub fn take_binary<A: Binary>(array: &A, indices: &[usize]) -> Result<A>
-    requires inside { All (λ index. index < length (binary_items (A.parts array.now))) indices.now }
+pub fn take_binary<T: ByteArrayType, O: Offset>(
+    array: &GenericByteArray<T, O>,
+    indices: &[usize],
+) -> Result<GenericByteArray<T, O>>
+    requires inside { All (λ index. index < length (binary_items array.now)) indices.now }
     // The items at the indices, the logical type, and how the items are stored.
-    ensures items { IfOk result (λ a. binary_items (A.parts a)
-        ≡ map (λ index. binary_item (A.parts array.now) index) indices.now) }
-    ensures data_type { IfOk result (λ a. (A.parts a).data_type ≡ (A.parts array.now).data_type) }
-    ensures compact { IfOk result (λ a. IsCompact (A.parts a)) }
-    ensures bytes { IfOk result (λ a. length (buffer_items (A.parts a).values) ≡ sum_by item_bytes
-        (map (λ index. binary_item (A.parts array.now) index) indices.now)) }
+    ensures items { IfOk result (λ a. binary_items a
+        ≡ map (λ index. binary_item array.now index) indices.now) }
+    ensures data_type { IfOk result (λ a. a.data_type ≡ array.now.data_type) }
+    ensures compact { IfOk result (λ a. IsCompact a) }
+    ensures bytes { IfOk result (λ a. length (buffer_items a.values) ≡ sum_by item_bytes
+        (map (λ index. binary_item array.now index) indices.now)) }
     // When it fails since an offset cannot count their bytes, and which errors can come.
-    ensures overflow { IsErrOf result Error.Overflow → A.GREATEST < sum_by item_bytes
-        (map (λ index. binary_item (A.parts array.now) index) indices.now) }
+    ensures overflow { IsErrOf result Error.Overflow → O.MAX < sum_by item_bytes
+        (map (λ index. binary_item array.now index) indices.now) }
     ensures fits { OnOk result (sum_by item_bytes
-        (map (λ index. binary_item (A.parts array.now) index) indices.now) ≤ A.GREATEST) }
-    ensures only { IfErr result (λ e. (e ≡ Error.Overflow) ⊎ (e ≡ Error.OutOfMemory)) }
+        (map (λ index. binary_item array.now index) indices.now) ≤ O.MAX) }
+    ensures only { OnlyOverflowOrOutOfMemory result }
 {
-    let mut taken = array.like(indices.len().min(array.count()))?;
+    let mut taken = like(array, indices.len().min(count(array)))?;
     for index in indices {
-        A::push_item(&mut taken, array, *index)?;
+        push_item(&mut taken, array, *index)?;
     }
-    A::freeze(taken)
+    taken.freeze()
 }
 
 /// Returns, for each index in `indices`, the byte string or text at this index, and null where the index is null. The
@@ -224,46 +229,46 @@ pub fn take_binary<A: Binary>(array: &A, indices: &[usize]) -> Result<A>
 /// If the taken items together have more bytes than an offset of the array can count, it fails with `Overflow` or
 /// `OutOfMemory`. Otherwise the only error is `OutOfMemory`.
 #[tactic(auto, using(crate::proofs::ByteCounts::weighed))]
-pub fn take_binary_by_array<A: Binary, I: Index>(
-    array: &A,
+pub fn take_binary_by_array<T: ByteArrayType, O: Offset, I: Index>(
+    array: &GenericByteArray<T, O>,
     indices: &PrimitiveArray<I>,
-) -> Result<A>
-    requires inside { All (IsInBoundsOrNull I.value (length (binary_items (A.parts array.now)))) (primitive_items indices.now) }
+) -> Result<GenericByteArray<T, O>>
+    requires inside { All (IsInBoundsOrNull I.value (length (binary_items array.now))) (primitive_items indices.now) }
     // The items at the indices, the logical type, and how the items are stored.
-    ensures items { IfOk result (λ a. binary_items (A.parts a)
-        ≡ items_by_index I.value (binary_items (A.parts array.now)) (primitive_items indices.now)) }
-    ensures data_type { IfOk result (λ a. (A.parts a).data_type ≡ (A.parts array.now).data_type) }
-    ensures compact { IfOk result (λ a. IsCompact (A.parts a)) }
-    ensures bytes { IfOk result (λ a. length (buffer_items (A.parts a).values) ≡ sum_by item_bytes
-        (items_by_index I.value (binary_items (A.parts array.now)) (primitive_items indices.now))) }
+    ensures items { IfOk result (λ a. binary_items a
+        ≡ items_by_index I.value (binary_items array.now) (primitive_items indices.now)) }
+    ensures data_type { IfOk result (λ a. a.data_type ≡ array.now.data_type) }
+    ensures compact { IfOk result (λ a. IsCompact a) }
+    ensures bytes { IfOk result (λ a. length (buffer_items a.values) ≡ sum_by item_bytes
+        (items_by_index I.value (binary_items array.now) (primitive_items indices.now))) }
     // When it fails since an offset cannot count their bytes, and which errors can come.
-    ensures overflow { IsErrOf result Error.Overflow → A.GREATEST < sum_by item_bytes
-        (items_by_index I.value (binary_items (A.parts array.now)) (primitive_items indices.now)) }
+    ensures overflow { IsErrOf result Error.Overflow → O.MAX < sum_by item_bytes
+        (items_by_index I.value (binary_items array.now) (primitive_items indices.now)) }
     ensures fits { OnOk result (sum_by item_bytes
-        (items_by_index I.value (binary_items (A.parts array.now)) (primitive_items indices.now)) ≤ A.GREATEST) }
-    ensures only { IfErr result (λ e. (e ≡ Error.Overflow) ⊎ (e ≡ Error.OutOfMemory)) }
+        (items_by_index I.value (binary_items array.now) (primitive_items indices.now)) ≤ O.MAX) }
+    ensures only { OnlyOverflowOrOutOfMemory result }
 {
-    let mut taken = array.like(indices.len().min(array.count()))?;
+    let mut taken = like(array, indices.len().min(count(array)))?;
     for position in 0..indices.len() {
         push_item_or_null(&mut taken, array, indices.get(position))?;
     }
-    A::freeze(taken)
+    taken.freeze()
 }
 
 /// Appends the item of `array` at an index, or a null where the index is null. Requires that the index is null, or at
 /// least 0 and below the length.
-fn push_item_or_null<A: Binary, I: Index>(
-    grown: &mut A::Growing,
-    array: &A,
+fn push_item_or_null<T: ByteArrayType, O: Offset, I: Index>(
+    grown: &mut MutableGenericByteArray<T, O>,
+    array: &GenericByteArray<T, O>,
     index: Option<I>,
 ) -> Result<()>
-    requires inside { IsInBoundsOrNull I.value (length (binary_items (A.parts array.now))) index }
-    ensures { AppendsItem A.GREATEST result (A.growing grown.old) (A.growing grown.new)
-        (item_at I.value (binary_items (A.parts array.now)) index) }
+    requires inside { IsInBoundsOrNull I.value (length (binary_items array.now)) index }
+    ensures { AppendsItem O.MAX result grown.old grown.new
+        (item_at I.value (binary_items array.now) index) }
 {
     match index {
-        Some(index) => A::push_item(grown, array, index.to_usize()),
-        None => A::push_null(grown),
+        Some(index) => push_item(grown, array, index.to_usize()),
+        None => grown.push_null(),
     }
 }
 
@@ -280,7 +285,7 @@ pub fn take_boolean(array: &BooleanArray, indices: &[usize]) -> Result<BooleanAr
     ensures items { IfOk result (λ a. boolean_items a
         ≡ map (λ index. slice_index_or (boolean_items array.now) index None) indices.now) }
     ensures bitmap { IfOk result (λ a. IsNone a.validity.bitmap ↔ IsNone array.now.validity.bitmap) }
-    ensures only { IfErr result (λ e. e ≡ Error.OutOfMemory) }
+    ensures only { OnlyOutOfMemory result }
 {
     let values = bits_at(array.values(), indices)?;
     let validity = validity_at(array.optional_validity(), indices)?;
@@ -305,7 +310,7 @@ pub fn take_boolean_by_array<I: Index>(
         ≡ items_by_index I.value (boolean_items array.now) (primitive_items indices.now)) }
     ensures bitmap { IfOk result (λ a.
         IsNone a.validity.bitmap ↔ (count_by is_none (boolean_items a) ≡ 0)) }
-    ensures only { IfErr result (λ e. e ≡ Error.OutOfMemory) }
+    ensures only { OnlyOutOfMemory result }
 {
     let values = tested_by_array(array, indices, |item| item.unwrap_or(false))?;
     let known = tested_by_array(array, indices, |item| item.is_some())?;
@@ -323,12 +328,11 @@ fn tested_by_array<I: Index, F: Fn(Option<bool>) -> bool>(
 ) -> Result<Bitmap>
     requires inside { All (IsInBoundsOrNull I.value (length (boolean_items array.now))) (primitive_items indices.now) }
     requires callable { F.IsAlwaysCallable test }
-    ensures items { let items = items_by_index I.value (boolean_items array.now) (primitive_items indices.now) in
-        (outcome : Option Bool → Bool) →
-        ((item : Option Bool) (tested : Bool) → F.post test item tested → tested ≡ outcome item) →
-        IfOk result (λ b. items_of b ≡ map outcome items) }
+    ensures items { (outcome : Option Bool → Bool) → ReturnsAlways (F.post test) outcome →
+        IfOk result (λ b. items_of b
+        ≡ map outcome (items_by_index I.value (boolean_items array.now) (primitive_items indices.now))) }
     ensures len { IfOk result (λ b. length (items_of b) ≡ length (primitive_items indices.now)) }
-    ensures only { IfErr result (λ e. e ≡ Error.OutOfMemory) }
+    ensures only { OnlyOutOfMemory result }
 {
     Bitmap::try_from_fn(
         array.values().allocator(),

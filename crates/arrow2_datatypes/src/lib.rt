@@ -1,17 +1,18 @@
 //! The meaning of arrays and their layout: logical types, physical types, fields and schemas.
 #![tactic(auto)]
 
-ghost use Rattle.std.specs.Prelude.{◌≡◌, ◌↔◌, IsTrue, IsOk, IfOk, IfErr, Some, None, if◌then◌else◌, codes};
+ghost use Rattle.std.specs.Prelude.{◌≡◌, ◌↔◌, IsTrue, IsOk, IfOk, Some, None, if◌then◌else◌, codes};
 ghost use Rattle.std.specs.BTreeMap.{get_by_text};
 ghost use Rattle.arrow2_datatypes.specs.Extensions.{extension, texts};
 ghost use Rattle.arrow2_datatypes.specs.Types.{physical, logical, of_integer, of_primitive};
+ghost use Rattle.arrow2_types.specs.Failures.{OnlyOutOfMemory};
 
 mod field;
 pub mod laws;
 mod physical_type;
 mod schema;
 
-use arrow2_types::{Error, Result};
+use arrow2_types::Result;
 pub use field::Field;
 pub use physical_type::{IntegerType, PhysicalType, PrimitiveType};
 pub use schema::Schema;
@@ -287,7 +288,7 @@ pub fn get_extension(metadata: &Metadata) -> Result<Option<(String, Option<Strin
     ensures ok { IfOk result (λ found. texts found ≡ extension metadata.now) }
     ensures succeeds { get_by_text metadata.now (codes "ARROW:extension:name") ≡ None →
         IsOk result }
-    ensures only { IfErr result (λ e. e ≡ Error.OutOfMemory) }
+    ensures only { OnlyOutOfMemory result }
 {
     let Some(name) = metadata.get("ARROW:extension:name") else {
         return Ok(None);

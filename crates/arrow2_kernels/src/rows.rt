@@ -7,7 +7,8 @@ ghost use Rattle.arrow2_model.specs.Rows.{GivesRow};
 use arrow2_bits::{BitChunkIterExact, BitChunks};
 use arrow2_chunk::BitChunk;
 
-/// Lists of equal length, read row by row: a row has the next word of each list.
+/// Lists that are read row by row: a row has the next word of each list. Each call that reads requires that all lists
+/// have equal lengths.
 pub trait WordRows<B: BitChunk>: Drop {
     /// The next word of each list.
     type Row: Copy;

@@ -1,11 +1,12 @@
 //! The commands on offsets: the effect of each on its slots, and its reply.
-ghost use Rattle.std.specs.Prelude.{◌≡◌, ◌<◌, ◌≤◌, ◌+◌, [], ◌∷◌, ◌≤ℤ◌, pos, unsigned_abs, sum, ◌⊎◌, OnOk, OnErr, IfErr, IfOk, IsErrOf};
+ghost use Rattle.std.specs.Prelude.{◌≡◌, ◌<◌, ◌≤◌, ◌+◌, [], ◌∷◌, ◌≤ℤ◌, pos, unsigned_abs, sum, OnOk, OnErr, IfOk, IsErrOf};
 ghost use Rattle.arrow2.specs.Buffers.{buffer_items};
 ghost use Rattle.arrow2.specs.Offsets.{last_of_growing, GrownBy, SameOffsets};
 ghost use Rattle.arrow2_machine.specs.Slots.{offsets_in};
 ghost use Rattle.arrow2_machine.specs.Replies.{offset_reply};
 ghost use Rattle.arrow2_machine.specs.OffsetOutcomes.{after_new_offsets, after_lengths, after_offset_pop, offset_text, after_offsets_freeze, offsets_inside, after_offsets_slice, zip_text, offset_outcome};
 ghost use Rattle.arrow2_machine.specs.Outcomes.{Gives, Carries, WritesText, MatchesMachine, Turns};
+ghost use Rattle.arrow2.specs.Failures.{OnlyOverflowOrOutOfMemory};
 
 use crate::line_error::CommandError::Rejected;
 use crate::line_error::{CommandError, LineError};
@@ -210,7 +211,7 @@ fn extend(offsets: &mut Offsets<i32>, lengths: NumberText<'_>) -> error::Result<
     ensures err { OnErr result (SameOffsets offsets.old offsets.new) }
     ensures overflow { IsErrOf result Error.Overflow →
         2147483647 < last_of_growing offsets.old + sum lengths.entry }
-    ensures only { IfErr result (λ e. (e ≡ Error.Overflow) ⊎ (e ≡ Error.OutOfMemory)) }
+    ensures only { OnlyOverflowOrOutOfMemory result }
 {
     offsets.try_extend_from_lengths(lengths)
 }

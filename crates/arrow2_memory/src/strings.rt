@@ -3,7 +3,10 @@ use crate::calls::{Row, input, ran_out, show, show_results};
 use arrow2_buffer::Buffer;
 use arrow2_datatypes::DataType;
 use arrow2_offset::OffsetsBuffer;
-use arrow2_text::{BinaryArray, MutableBinaryArray, MutableUtf8Array, Utf8Array};
+use arrow2_text::{
+    BinaryArray, BinaryType, ByteArrayType, GenericByteArray, MutableBinaryArray,
+    MutableGenericByteArray, MutableUtf8Array, Utf8Array, Utf8Type,
+};
 use arrow2_types::{Error, Result};
 use either::Either;
 use std::alloc::Global;
@@ -30,24 +33,9 @@ fn typed_texts(alloc: Global) -> Result<Utf8Array<i32>> {
     Utf8Array::try_new(DataType::Binary, offsets, values, None)
 }
 
-/// The array of no byte strings, from parts that are rejected.
-fn typed_strings(alloc: Global) -> Result<BinaryArray<i32>> {
-    let offsets = input(OffsetsBuffer::new(alloc))?;
-    let values = input(Buffer::new(alloc))?;
-    BinaryArray::try_new(DataType::Utf8, offsets, values, None)
-}
-
 /// The texts of an array that became a growing one, frozen again. They have no validity, so that one is made.
 fn thawed_texts(alloc: Global) -> Result<Utf8Array<i32>> {
     match texts(alloc)?.into_mut()? {
-        Either::Left(array) => Ok(array),
-        Either::Right(array) => input(array.freeze()),
-    }
-}
-
-/// The byte strings of an array that became a growing one, frozen again.
-fn thawed_strings(alloc: Global) -> Result<BinaryArray<i32>> {
-    match strings(alloc)?.into_mut()? {
         Either::Left(array) => Ok(array),
         Either::Right(array) => input(array.freeze()),
     }
@@ -58,14 +46,6 @@ fn frozen_texts(alloc: Global) -> Result<Utf8Array<i32>> {
     let mut array = input(MutableUtf8Array::new(alloc))?;
     input(array.push_null())?;
     input(array.push(Some(TEXT)))?;
-    array.freeze()
-}
-
-/// A null and a byte string, frozen.
-fn frozen_strings(alloc: Global) -> Result<BinaryArray<i32>> {
-    let mut array = input(MutableBinaryArray::new(alloc))?;
-    input(array.push_null())?;
-    input(array.push(Some(TEXT.as_bytes())))?;
     array.freeze()
 }
 
@@ -90,14 +70,14 @@ fn given_texts(alloc: Global) -> [Row<Utf8Array<i32>>; 5] {
             "Utf8Array::from_options",
             Utf8Array::from_options(alloc, &[Some(TEXT), None]),
         ),
-        ("Utf8Array::try_new", typed_texts(alloc)),
-        ("Utf8Array::into_mut", thawed_texts(alloc)),
-        ("MutableUtf8Array::freeze", frozen_texts(alloc)),
+        ("GenericByteArray::try_new", typed_texts(alloc)),
+        ("GenericByteArray::into_mut", thawed_texts(alloc)),
+        ("MutableGenericByteArray::freeze", frozen_texts(alloc)),
     ]
 }
 
 /// Arrays of byte strings.
-fn given_strings(alloc: Global) -> [Row<BinaryArray<i32>>; 7] {
+fn given_strings(alloc: Global) -> [Row<BinaryArray<i32>>; 4] {
     [
         (
             "BinaryArray::from_slice",
@@ -107,9 +87,6 @@ fn given_strings(alloc: Global) -> [Row<BinaryArray<i32>>; 7] {
             "BinaryArray::from_options",
             BinaryArray::from_options(alloc, &[Some(TEXT.as_bytes()), None]),
         ),
-        ("BinaryArray::try_new", typed_strings(alloc)),
-        ("BinaryArray::into_mut", thawed_strings(alloc)),
-        ("MutableBinaryArray::freeze", frozen_strings(alloc)),
         ("Utf8Array::to_binary", binary_copy(alloc)),
         ("Utf8Array::into_binary", binary_from_texts(alloc)),
     ]
@@ -133,14 +110,6 @@ fn texts_with_type(alloc: Global) -> Result<MutableUtf8Array<i32>> {
     MutableUtf8Array::with_capacity_from(alloc, data_type, 20, 20)
 }
 
-/// An array of byte strings of a given logical type.
-fn strings_with_type(alloc: Global) -> Result<MutableBinaryArray<i32>> {
-    let Ok(data_type) = Rc::new(alloc, DataType::Binary) else {
-        return Err(Error::Overflow);
-    };
-    MutableBinaryArray::with_capacity_from(alloc, data_type, 20, 20)
-}
-
 /// The text that an iterator gave.
 fn collected_texts(alloc: Global) -> Result<MutableUtf8Array<i32>> {
     MutableUtf8Array::try_from_iter(alloc, Some(Some(TEXT)))
@@ -152,35 +121,23 @@ fn collected_strings(alloc: Global) -> Result<MutableBinaryArray<i32>> {
 }
 
 /// The numbers of items of arrays that grow.
-fn growing(alloc: Global) -> [Row<usize>; 8] {
+fn growing(alloc: Global) -> [Row<usize>; 5] {
     [
         (
-            "MutableUtf8Array::new",
+            "MutableGenericByteArray::new",
             count_texts(MutableUtf8Array::new(alloc)),
         ),
         (
-            "MutableUtf8Array::with_capacity",
+            "MutableGenericByteArray::with_capacity",
             count_texts(MutableUtf8Array::with_capacity(alloc, 20, 20)),
         ),
         (
-            "MutableUtf8Array::with_capacity_from",
+            "MutableGenericByteArray::with_capacity_from",
             count_texts(texts_with_type(alloc)),
         ),
         (
             "MutableUtf8Array::try_from_iter",
             count_texts(collected_texts(alloc)),
-        ),
-        (
-            "MutableBinaryArray::new",
-            count_strings(MutableBinaryArray::new(alloc)),
-        ),
-        (
-            "MutableBinaryArray::with_capacity",
-            count_strings(MutableBinaryArray::with_capacity(alloc, 20, 20)),
-        ),
-        (
-            "MutableBinaryArray::with_capacity_from",
-            count_strings(strings_with_type(alloc)),
         ),
         (
             "MutableBinaryArray::try_from_iter",
@@ -194,6 +151,8 @@ fn growing(alloc: Global) -> [Row<usize>; 8] {
 enum Growth {
     /// By one item.
     Push,
+    /// By one item, given by its bytes.
+    PushBytes,
     /// By a null.
     PushNull,
     /// By two items that are not null.
@@ -212,115 +171,120 @@ enum Growth {
     Pop,
 }
 
-/// Arrays that grow, by another array of type `A` too.
-trait Grows<A>: Drop {
-    /// Returns an array without items.
-    fn empty(alloc: Global) -> Result<Self>;
-
-    /// Changes the array in this way.
-    fn grow(&mut self, growth: Growth, other: &A) -> Row<()>;
-
-    /// The number of items.
-    fn count(&self) -> usize;
+/// The types of arrays, whose values are texts or byte strings.
+trait Grows: ByteArrayType {
+    /// Changes the array in a way that takes or returns a value.
+    fn grow(array: &mut MutableGenericByteArray<Self, i32>, growth: Growth) -> Row<()>;
 }
 
-impl Grows<Utf8Array<i32>> for MutableUtf8Array<i32> {
-    fn empty(alloc: Global) -> Result<Self> {
-        MutableUtf8Array::new(alloc)
-    }
-
-    fn grow(&mut self, growth: Growth, other: &Utf8Array<i32>) -> Row<()> {
+impl Grows for Utf8Type {
+    fn grow(array: &mut MutableUtf8Array<i32>, growth: Growth) -> Row<()> {
         match growth {
-            Growth::Push => ("MutableUtf8Array::push", self.push(Some(TEXT))),
-            Growth::PushNull => ("MutableUtf8Array::push_null", self.push_null()),
             Growth::ExtendFromSlice => (
                 "MutableUtf8Array::extend_from_slice",
-                self.extend_from_slice(&[TEXT, TEXT]),
+                array.extend_from_slice(&[TEXT, TEXT]),
             ),
             Growth::ExtendFromOptions => (
                 "MutableUtf8Array::extend_from_options",
-                self.extend_from_options(&[Some(TEXT), None]),
+                array.extend_from_options(&[Some(TEXT), None]),
             ),
             Growth::ExtendConstant => (
                 "MutableUtf8Array::extend_constant",
-                self.extend_constant(90, Some(TEXT)),
+                array.extend_constant(90, Some(TEXT)),
             ),
-            Growth::ExtendFromArray => (
-                "MutableUtf8Array::extend_from_array",
-                self.extend_from_array(other, 0, other.len()),
-            ),
-            Growth::Reserve => ("MutableUtf8Array::reserve", self.reserve(90, 90)),
-            Growth::ShrinkToFit => ("MutableUtf8Array::shrink_to_fit", self.shrink_to_fit()),
-            Growth::Pop => ("MutableUtf8Array::pop", self.pop().map(drop)),
+            Growth::Pop => ("MutableUtf8Array::pop", array.pop().map(drop)),
+            _ => ("MutableUtf8Array::push", array.push(Some(TEXT))),
         }
-    }
-
-    fn count(&self) -> usize {
-        self.len()
     }
 }
 
-impl Grows<BinaryArray<i32>> for MutableBinaryArray<i32> {
-    fn empty(alloc: Global) -> Result<Self> {
-        MutableBinaryArray::new(alloc)
-    }
-
-    fn grow(&mut self, growth: Growth, other: &BinaryArray<i32>) -> Row<()> {
+impl Grows for BinaryType {
+    fn grow(array: &mut MutableBinaryArray<i32>, growth: Growth) -> Row<()> {
+        let text = TEXT.as_bytes();
         match growth {
-            Growth::Push => ("MutableBinaryArray::push", self.push(Some(TEXT.as_bytes()))),
-            Growth::PushNull => ("MutableBinaryArray::push_null", self.push_null()),
             Growth::ExtendFromSlice => (
                 "MutableBinaryArray::extend_from_slice",
-                self.extend_from_slice(&[TEXT.as_bytes(), TEXT.as_bytes()]),
+                array.extend_from_slice(&[text, text]),
             ),
             Growth::ExtendFromOptions => (
                 "MutableBinaryArray::extend_from_options",
-                self.extend_from_options(&[Some(TEXT.as_bytes()), None]),
+                array.extend_from_options(&[Some(text), None]),
             ),
             Growth::ExtendConstant => (
                 "MutableBinaryArray::extend_constant",
-                self.extend_constant(90, Some(TEXT.as_bytes())),
+                array.extend_constant(90, Some(text)),
             ),
-            Growth::ExtendFromArray => (
-                "MutableBinaryArray::extend_from_array",
-                self.extend_from_array(other, 0, other.len()),
-            ),
-            Growth::Reserve => ("MutableBinaryArray::reserve", self.reserve(90, 90)),
-            Growth::ShrinkToFit => ("MutableBinaryArray::shrink_to_fit", self.shrink_to_fit()),
-            Growth::Pop => ("MutableBinaryArray::pop", self.pop().map(drop)),
+            Growth::Pop => ("MutableBinaryArray::pop", array.pop().map(drop)),
+            _ => ("MutableBinaryArray::push", array.push(Some(text))),
         }
     }
+}
 
-    fn count(&self) -> usize {
-        self.len()
+/// Changes the array in this way. `other` is an array of one item.
+fn change<T: Grows>(
+    array: &mut MutableGenericByteArray<T, i32>,
+    growth: Growth,
+    other: &GenericByteArray<T, i32>,
+) -> Row<()> {
+    match growth {
+        Growth::PushBytes => (
+            "MutableGenericByteArray::push_bytes",
+            push_first(array, other),
+        ),
+        Growth::PushNull => ("MutableGenericByteArray::push_null", array.push_null()),
+        Growth::ExtendFromArray => (
+            "MutableGenericByteArray::extend_from_array",
+            array.extend_from_array(other, 0, other.len()),
+        ),
+        Growth::Reserve => ("MutableGenericByteArray::reserve", array.reserve(90, 90)),
+        Growth::ShrinkToFit => (
+            "MutableGenericByteArray::shrink_to_fit",
+            array.shrink_to_fit(),
+        ),
+        _ => T::grow(array, growth),
     }
+}
+
+/// Appends the first item of an array, or a null if there is none.
+fn push_first<T: Grows>(
+    array: &mut MutableGenericByteArray<T, i32>,
+    other: &GenericByteArray<T, i32>,
+) -> Result<()> {
+    if other.is_empty() {
+        return array.push_bytes(None);
+    }
+    array.push_bytes(other.get_bytes(0))
 }
 
 /// Changes an array, and shows how many items it has then. Where an allocation failed, shows whether the number of
 /// items changed, and changes the array once more.
-fn grow_and_show<R: Print + Eprint, A, B: Grows<A>>(
+fn grow_and_show<R: Print + Eprint, T: Grows>(
     rt: &R,
     growth: Growth,
-    array: &mut B,
-    other: &A,
+    array: &mut MutableGenericByteArray<T, i32>,
+    other: &GenericByteArray<T, i32>,
 ) {
-    let before = array.count();
-    let (call, made) = array.grow(growth, other);
+    let before = array.len();
+    let (call, made) = change(array, growth, other);
     if ran_out(rt, call, &made) {
-        if array.count() != before {
-            show(rt, "changed though it failed", &array.count());
+        if array.len() != before {
+            show(rt, "changed though it failed", &array.len());
         }
-        let (_, again) = array.grow(growth, other);
+        let (_, again) = change(array, growth, other);
         show(rt, call, &again);
     } else {
         show(rt, call, &made);
     }
-    show(rt, call, &array.count());
+    show(rt, call, &array.len());
 }
 
 /// The array that is changed. It has no items, or for the removal of an item those of another array.
-fn array_to_grow<A, B: Grows<A>>(alloc: Global, growth: Growth, other: &A) -> Result<B> {
-    let mut array = B::empty(alloc).or(B::empty(alloc))?;
+fn array_to_grow<T: Grows>(
+    alloc: Global,
+    growth: Growth,
+    other: &GenericByteArray<T, i32>,
+) -> Result<MutableGenericByteArray<T, i32>> {
+    let mut array = MutableGenericByteArray::new(alloc).or(MutableGenericByteArray::new(alloc))?;
     if matches!(growth, Growth::Pop) {
         fill(&mut array, other)?;
     }
@@ -328,37 +292,47 @@ fn array_to_grow<A, B: Grows<A>>(alloc: Global, growth: Growth, other: &A) -> Re
 }
 
 /// Appends another array. Where that fails, appends it once more.
-fn fill<A, B: Grows<A>>(array: &mut B, other: &A) -> Result<()> {
-    let (_, filled) = array.grow(Growth::ExtendFromArray, other);
-    if filled.is_ok() {
-        return filled;
+fn fill<T: ByteArrayType>(
+    array: &mut MutableGenericByteArray<T, i32>,
+    other: &GenericByteArray<T, i32>,
+) -> Result<()> {
+    if array.extend_from_array(other, 0, other.len()).is_ok() {
+        return Ok(());
     }
-    let (_, again) = array.grow(Growth::ExtendFromArray, other);
-    again
+    array.extend_from_array(other, 0, other.len())
 }
 
-/// Makes each change of arrays of a type.
-fn grow_each_way<R: Print + Eprint, A, B: Grows<A>>(
+/// Makes each of these changes of arrays of a type.
+fn grow_each_way<R: Print + Eprint, T: Grows>(
     rt: &R,
     alloc: Global,
-    other: &A,
+    other: &GenericByteArray<T, i32>,
+    ways: &[Growth],
 ) -> Result<()> {
-    for growth in [
-        Growth::Push,
-        Growth::PushNull,
-        Growth::ExtendFromSlice,
-        Growth::ExtendFromOptions,
-        Growth::ExtendConstant,
-        Growth::ExtendFromArray,
-        Growth::Reserve,
-        Growth::ShrinkToFit,
-        Growth::Pop,
-    ] {
-        let mut array: B = array_to_grow(alloc, growth, other)?;
-        grow_and_show(rt, growth, &mut array, other);
+    for growth in ways {
+        let mut array = array_to_grow(alloc, *growth, other)?;
+        grow_and_show(rt, *growth, &mut array, other);
     }
     Ok(())
 }
+
+/// The changes that take or return a value.
+const OF_VALUES: [Growth; 5] = [
+    Growth::Push,
+    Growth::ExtendFromSlice,
+    Growth::ExtendFromOptions,
+    Growth::ExtendConstant,
+    Growth::Pop,
+];
+
+/// The changes that are the same for each type of array.
+const OF_ANY: [Growth; 5] = [
+    Growth::PushBytes,
+    Growth::PushNull,
+    Growth::ExtendFromArray,
+    Growth::Reserve,
+    Growth::ShrinkToFit,
+];
 
 /// Makes each of these calls.
 pub(crate) fn all<R: Print + Eprint>(rt: &R, alloc: Global) -> Result<()> {
@@ -366,7 +340,8 @@ pub(crate) fn all<R: Print + Eprint>(rt: &R, alloc: Global) -> Result<()> {
     show_results(rt, &given_strings(alloc), &given_strings(alloc));
     show_results(rt, &growing(alloc), &growing(alloc));
     let texts = texts(alloc).or(texts(alloc))?;
-    grow_each_way::<_, _, MutableUtf8Array<i32>>(rt, alloc, &texts)?;
+    grow_each_way(rt, alloc, &texts, &OF_ANY)?;
+    grow_each_way(rt, alloc, &texts, &OF_VALUES)?;
     let strings = strings(alloc).or(strings(alloc))?;
-    grow_each_way::<_, _, MutableBinaryArray<i32>>(rt, alloc, &strings)
+    grow_each_way(rt, alloc, &strings, &OF_VALUES)
 }

@@ -2,7 +2,7 @@
 ghost use Rattle.std.specs.Prelude.{◌≡◌, ◌↔◌, ℕ, count_by, IfOk, IfErr, IsNone, IsOk, MatchBool, OnOk, All};
 ghost use Rattle.std.specs.List.{AllZip};
 ghost use Rattle.std.specs.Option.{is_none};
-ghost use Rattle.arrow2_types.specs.Failures.{IsInvalidArgumentOrOutOfMemory};
+ghost use Rattle.arrow2_types.specs.Failures.{IsInvalidArgumentOrOutOfMemory, OnlyOutOfMemory};
 ghost use Rattle.arrow2_datatypes.specs.Types.{physical};
 ghost use Rattle.arrow2_datatypes.specs.declared.physical_type.PhysicalType.TheVariants.{Primitive};
 ghost use Rattle.arrow2_numeric.specs.Casts.{IsCast, IsSameNumber, IsFirstMisfit, Fits, not_fitting_message};
@@ -34,7 +34,7 @@ pub fn primitive_to_primitive<I: NativeType + PrimInt, O: NativeType + PrimInt>(
     ensures data_type { IfOk result (λ a. a.data_type ≡ data_type.value) }
     ensures bitmap { IfOk result (λ a.
         IsNone a.validity.bitmap ↔ (count_by is_none (primitive_items a) ≡ 0)) }
-    ensures only { IfErr result (λ e. e ≡ Error.OutOfMemory) }
+    ensures only { OnlyOutOfMemory result }
 {
     let mut numbers = MutablePrimitiveArray::of_type(array.values().allocator(), data_type);
     numbers.reserve(array.len())?;
@@ -72,7 +72,7 @@ pub fn try_primitive_to_primitive<I: NativeType + PrimInt, O: NativeType + PrimI
         IsFirstMisfit I.value O.fits (primitive_items array.now) index →
         IsInvalidArgumentOrOutOfMemory e (not_fitting_message index)) }
     ensures only { All (Fits I.value O.fits) (primitive_items array.now) →
-        IfErr result (λ e. e ≡ Error.OutOfMemory) }
+        OnlyOutOfMemory result }
 {
     check_fits::<I, O>(array)?;
     primitive_to_primitive(array, data_type)

@@ -1,6 +1,6 @@
 //! Comparisons of numbers. An item of the result is null where an input item is null. The result has a validity bitmap
 //! exactly if an input has one.
-ghost use Rattle.std.specs.Prelude.{◌≡◌, ◌<◌, [], Bool, length, map, not, option_map, IfOk, IfErr, ℕ, false, slice_index_or, ◌↔◌, IsNone};
+ghost use Rattle.std.specs.Prelude.{◌≡◌, ◌<◌, [], Bool, length, map, not, option_map, IfOk, ℕ, false, slice_index_or, ◌↔◌, IsNone};
 ghost use Rattle.std.specs.Ordering.{partial_lt, partial_le, partial_gt, partial_ge};
 ghost use Rattle.std.specs.Simd.Lanes.{zip2};
 ghost use Rattle.arrow2_array.specs.Items.{boolean_items};
@@ -9,11 +9,12 @@ ghost use Rattle.arrow2_numeric.specs.Pairs.{IsTestedAt, AlwaysReturns, of_both}
 ghost use Rattle.arrow2_model.specs.Buffers.{buffer_items};
 ghost use Rattle.arrow2_primitive.specs.Primitive.{primitive_items};
 ghost use Rattle.arrow2_model.specs.Storage.{items_of};
+ghost use Rattle.arrow2_types.specs.Failures.{OnlyOutOfMemory};
 
 use arrow2_array::BooleanArray;
 use arrow2_bitmap::Bitmap;
 use arrow2_primitive::PrimitiveArray;
-use arrow2_types::{Error, NativeType, Result};
+use arrow2_types::{NativeType, Result};
 
 /// Returns, item by item, the result of `test` for the value, and null where the item is null. If the contract of
 /// `test` fixes its result for each value, the clause `items` states exactly this. The other clauses hold for any
@@ -36,7 +37,7 @@ pub fn compare_each<T: NativeType, F: Fn(&T) -> bool>(
         IsResultAt (buffer_items array.now.values) (F.post test) index (slice_index_or (items_of a.values) index false)) }
     ensures len { IfOk result (λ a. length (items_of a.values) ≡ length (buffer_items array.now.values)) }
     ensures validity { IfOk result (λ a. a.validity ≡ array.now.validity) }
-    ensures only { IfErr result (λ e. e ≡ Error.OutOfMemory) }
+    ensures only { OnlyOutOfMemory result }
 {
     let values = array.values();
     let validity = array.optional_validity();
@@ -53,7 +54,7 @@ pub fn eq_scalar<T: NativeType>(array: &PrimitiveArray<T>, scalar: T) -> Result<
     ensures items { IfOk result (λ a. boolean_items a
         ≡ map (option_map (λ value. T.PartialEq.eq value scalar)) (primitive_items array.now)) }
     ensures validity { IfOk result (λ a. a.validity ≡ array.now.validity) }
-    ensures only { IfErr result (λ e. e ≡ Error.OutOfMemory) }
+    ensures only { OnlyOutOfMemory result }
 {
     compare_each(array, |value| *value == scalar)
 }
@@ -67,7 +68,7 @@ pub fn neq_scalar<T: NativeType>(array: &PrimitiveArray<T>, scalar: T) -> Result
     ensures items { IfOk result (λ a. boolean_items a
         ≡ map (option_map (λ value. not (T.PartialEq.eq value scalar))) (primitive_items array.now)) }
     ensures validity { IfOk result (λ a. a.validity ≡ array.now.validity) }
-    ensures only { IfErr result (λ e. e ≡ Error.OutOfMemory) }
+    ensures only { OnlyOutOfMemory result }
 {
     compare_each(array, |value| *value != scalar)
 }
@@ -84,7 +85,7 @@ pub fn lt_scalar<T: NativeType + PartialOrd>(
     ensures items { IfOk result (λ a. boolean_items a
         ≡ map (option_map (λ value. partial_lt T.PartialOrd.partial_cmp value scalar)) (primitive_items array.now)) }
     ensures validity { IfOk result (λ a. a.validity ≡ array.now.validity) }
-    ensures only { IfErr result (λ e. e ≡ Error.OutOfMemory) }
+    ensures only { OnlyOutOfMemory result }
 {
     compare_each(array, |value| *value < scalar)
 }
@@ -101,7 +102,7 @@ pub fn lt_eq_scalar<T: NativeType + PartialOrd>(
     ensures items { IfOk result (λ a. boolean_items a
         ≡ map (option_map (λ value. partial_le T.PartialOrd.partial_cmp value scalar)) (primitive_items array.now)) }
     ensures validity { IfOk result (λ a. a.validity ≡ array.now.validity) }
-    ensures only { IfErr result (λ e. e ≡ Error.OutOfMemory) }
+    ensures only { OnlyOutOfMemory result }
 {
     compare_each(array, |value| *value <= scalar)
 }
@@ -118,7 +119,7 @@ pub fn gt_scalar<T: NativeType + PartialOrd>(
     ensures items { IfOk result (λ a. boolean_items a
         ≡ map (option_map (λ value. partial_gt T.PartialOrd.partial_cmp value scalar)) (primitive_items array.now)) }
     ensures validity { IfOk result (λ a. a.validity ≡ array.now.validity) }
-    ensures only { IfErr result (λ e. e ≡ Error.OutOfMemory) }
+    ensures only { OnlyOutOfMemory result }
 {
     compare_each(array, |value| *value > scalar)
 }
@@ -135,7 +136,7 @@ pub fn gt_eq_scalar<T: NativeType + PartialOrd>(
     ensures items { IfOk result (λ a. boolean_items a
         ≡ map (option_map (λ value. partial_ge T.PartialOrd.partial_cmp value scalar)) (primitive_items array.now)) }
     ensures validity { IfOk result (λ a. a.validity ≡ array.now.validity) }
-    ensures only { IfErr result (λ e. e ≡ Error.OutOfMemory) }
+    ensures only { OnlyOutOfMemory result }
 {
     compare_each(array, |value| *value >= scalar)
 }
@@ -160,7 +161,7 @@ fn compare_pairs<T: NativeType, F: Fn(T, T) -> bool>(
         ≡ zip2 (of_both outcome) (primitive_items lhs.now) (primitive_items rhs.now)) }
     ensures bitmap { IfOk result (λ a.
         IsNone a.validity.bitmap ↔ (IsNone lhs.now.validity.bitmap × IsNone rhs.now.validity.bitmap)) }
-    ensures only { IfErr result (λ e. e ≡ Error.OutOfMemory) }
+    ensures only { OnlyOutOfMemory result }
 {
     let values = lhs.values();
     let left = values.as_slice();
@@ -190,7 +191,7 @@ pub fn eq<T: NativeType>(lhs: &PrimitiveArray<T>, rhs: &PrimitiveArray<T>) -> Re
         ≡ zip2 (of_both T.PartialEq.eq) (primitive_items lhs.now) (primitive_items rhs.now)) }
     ensures bitmap { IfOk result (λ a.
         IsNone a.validity.bitmap ↔ (IsNone lhs.now.validity.bitmap × IsNone rhs.now.validity.bitmap)) }
-    ensures only { IfErr result (λ e. e ≡ Error.OutOfMemory) }
+    ensures only { OnlyOutOfMemory result }
 {
     compare_pairs(lhs, rhs, |left, right| left == right)
 }
@@ -207,7 +208,7 @@ pub fn neq<T: NativeType>(lhs: &PrimitiveArray<T>, rhs: &PrimitiveArray<T>) -> R
         ≡ zip2 (of_both (λ left right. not (T.PartialEq.eq left right))) (primitive_items lhs.now) (primitive_items rhs.now)) }
     ensures bitmap { IfOk result (λ a.
         IsNone a.validity.bitmap ↔ (IsNone lhs.now.validity.bitmap × IsNone rhs.now.validity.bitmap)) }
-    ensures only { IfErr result (λ e. e ≡ Error.OutOfMemory) }
+    ensures only { OnlyOutOfMemory result }
 {
     compare_pairs(lhs, rhs, |left, right| left != right)
 }
@@ -227,7 +228,7 @@ pub fn lt<T: NativeType + PartialOrd>(
         ≡ zip2 (of_both (partial_lt T.PartialOrd.partial_cmp)) (primitive_items lhs.now) (primitive_items rhs.now)) }
     ensures bitmap { IfOk result (λ a.
         IsNone a.validity.bitmap ↔ (IsNone lhs.now.validity.bitmap × IsNone rhs.now.validity.bitmap)) }
-    ensures only { IfErr result (λ e. e ≡ Error.OutOfMemory) }
+    ensures only { OnlyOutOfMemory result }
 {
     compare_pairs(lhs, rhs, |left, right| left < right)
 }
@@ -247,7 +248,7 @@ pub fn lt_eq<T: NativeType + PartialOrd>(
         ≡ zip2 (of_both (partial_le T.PartialOrd.partial_cmp)) (primitive_items lhs.now) (primitive_items rhs.now)) }
     ensures bitmap { IfOk result (λ a.
         IsNone a.validity.bitmap ↔ (IsNone lhs.now.validity.bitmap × IsNone rhs.now.validity.bitmap)) }
-    ensures only { IfErr result (λ e. e ≡ Error.OutOfMemory) }
+    ensures only { OnlyOutOfMemory result }
 {
     compare_pairs(lhs, rhs, |left, right| left <= right)
 }
@@ -267,7 +268,7 @@ pub fn gt<T: NativeType + PartialOrd>(
         ≡ zip2 (of_both (partial_gt T.PartialOrd.partial_cmp)) (primitive_items lhs.now) (primitive_items rhs.now)) }
     ensures bitmap { IfOk result (λ a.
         IsNone a.validity.bitmap ↔ (IsNone lhs.now.validity.bitmap × IsNone rhs.now.validity.bitmap)) }
-    ensures only { IfErr result (λ e. e ≡ Error.OutOfMemory) }
+    ensures only { OnlyOutOfMemory result }
 {
     compare_pairs(lhs, rhs, |left, right| left > right)
 }
@@ -287,7 +288,7 @@ pub fn gt_eq<T: NativeType + PartialOrd>(
         ≡ zip2 (of_both (partial_ge T.PartialOrd.partial_cmp)) (primitive_items lhs.now) (primitive_items rhs.now)) }
     ensures bitmap { IfOk result (λ a.
         IsNone a.validity.bitmap ↔ (IsNone lhs.now.validity.bitmap × IsNone rhs.now.validity.bitmap)) }
-    ensures only { IfErr result (λ e. e ≡ Error.OutOfMemory) }
+    ensures only { OnlyOutOfMemory result }
 {
     compare_pairs(lhs, rhs, |left, right| left >= right)
 }

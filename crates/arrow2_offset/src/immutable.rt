@@ -1,5 +1,5 @@
 //! Offsets that are shared.
-ghost use Rattle.std.specs.Prelude.{◌≡◌, ◌+◌, ◌-◌, ◌<◌, ◌≤◌, ◌↔◌, ⊤, [], ◌∷◌, length, map, sum, MatchResult, pos, slice_index_or, IfOk, IfErr, IsTrue, nat_eq};
+ghost use Rattle.std.specs.Prelude.{◌≡◌, ◌+◌, ◌-◌, ◌<◌, ◌≤◌, ◌↔◌, ⊤, [], ◌∷◌, length, map, sum, MatchResult, pos, slice_index_or, IfOk, IsTrue, nat_eq};
 ghost use Rattle.std.specs.Ordering.{on, int_eq};
 ghost use Rattle.std.specs.Cmp.{partial_equiv_from_equiv, int_eq_equiv, on_equiv};
 ghost use Rattle.std.specs.Cmp.Lexicographic.{pointwise, lists_equiv};
@@ -9,6 +9,7 @@ ghost use Rattle.arrow2_offset.specs.Failures.{RejectsNumbers, RejectsOrRunsOut}
 ghost use Rattle.arrow2_model.specs.Parts.{part};
 ghost use Rattle.arrow2_model.specs.Buffers.{buffer_items, whole_buffer};
 ghost use Rattle.arrow2_offset.specs.Offsets.{AreOffsets, AreOffsetsUpTo, offset_at, offsets_of, offsets_list, start_of, lengths_of, last_of, numbers_of};
+ghost use Rattle.arrow2_types.specs.Failures.{OnlyOutOfMemory};
 
 use crate::check::try_check_offsets;
 use crate::iterator::Lengths;
@@ -65,7 +66,7 @@ impl<O: Offset> OffsetsBuffer<O> {
     /// Only `OutOfMemory`.
     pub fn new(alloc: Global) -> Result<Self>
         ensures ok { IfOk result (λ b. b ≡ whole_buffer (pos 0 ∷ [])) }
-        ensures only { IfErr result (λ e. e ≡ Error.OutOfMemory) }
+        ensures only { OnlyOutOfMemory result }
     {
         OffsetsBuffer::try_from(Offsets::new(alloc)?)
     }

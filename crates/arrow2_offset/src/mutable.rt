@@ -1,5 +1,5 @@
 //! Offsets that grow.
-ghost use Rattle.std.specs.Prelude.{◌≡◌, ◌+◌, ◌-◌, ◌<◌, ◌≤◌, ◌^◌, ◌≤ℤ◌, ◌↔◌, ◌⊎◌, [], ◌∷◌, length, map, sum, take, pos, replicate, slice_index_or, unsigned_abs, OnOk, IsOk, IfOk, IfErr, IsErrOf, IsTrue, MatchOption, MatchResult, vec_capacity};
+ghost use Rattle.std.specs.Prelude.{◌≡◌, ◌+◌, ◌-◌, ◌<◌, ◌≤◌, ◌^◌, ◌≤ℤ◌, ◌↔◌, ◌⊎◌, [], ◌∷◌, length, map, sum, take, pos, replicate, slice_index_or, unsigned_abs, OnOk, IsOk, IfOk, IsErrOf, IsTrue, MatchOption, MatchResult, vec_capacity};
 ghost use Rattle.std.specs.Iterator.{IsFinite, IsFiniteIterable};
 ghost use Rattle.std.specs.Iterator.Runs.{WholeRun};
 ghost use Rattle.std.specs.Ordering.{on};
@@ -13,7 +13,7 @@ ghost use Rattle.arrow2_offset.specs.Iterators.{MayYieldPast};
 ghost use Rattle.arrow2_offset.specs.Growth.{Grows, GrowsUpTo, GrowsByIterator};
 ghost use Rattle.arrow2_offset.specs.NewOffsets.{offsets_of_vec};
 ghost use Rattle.arrow2_offset.specs.Failures.{RejectsNumbers};
-ghost use Rattle.arrow2_types.specs.Failures.{error_of};
+ghost use Rattle.arrow2_types.specs.Failures.{error_of, OnlyOutOfMemory, OnlyOverflowOrOutOfMemory};
 ghost use Rattle.arrow2_types.specs.declared.growth_error.GrowthError.TheVariants as growth_error;
 
 use crate::append_lengths::{LEAST_CAPACITY, append_lengths};
@@ -72,7 +72,7 @@ impl<O: Offset> Offsets<O> {
     /// Only `OutOfMemory`.
     pub fn new(alloc: Global) -> Result<Self>
         ensures ok { IfOk result (λ o. (o.start ≡ 0) × (o.lengths ≡ [])) }
-        ensures only { IfErr result (λ e. e ≡ Error.OutOfMemory) }
+        ensures only { OnlyOutOfMemory result }
     {
         Offsets::with_capacity(alloc, 0)
     }
@@ -86,7 +86,7 @@ impl<O: Offset> Offsets<O> {
     pub fn new_zeroed(alloc: Global, len: usize) -> Result<Self>
         ensures ok { IfOk result (λ o. (o.start ≡ 0) × (o.lengths ≡ replicate len 0)) }
         ensures overflow { IsErrOf result Error.Overflow ↔ (2 ^ 64 ≤ len + 1) }
-        ensures only { IfErr result (λ e. (e ≡ Error.Overflow) ⊎ (e ≡ Error.OutOfMemory)) }
+        ensures only { OnlyOverflowOrOutOfMemory result }
     {
         let mut offsets = Offsets::with_capacity(alloc, len)?;
         offsets.extend_constant(len)?;
@@ -103,7 +103,7 @@ impl<O: Offset> Offsets<O> {
         ensures ok { IfOk result (λ o. (o.start ≡ 0) × (o.lengths ≡ [])) }
         ensures capacity { IfOk result (λ o. capacity ≤ o.capacity) }
         ensures overflow { IsErrOf result Error.Overflow ↔ (2 ^ 64 ≤ capacity + 1) }
-        ensures only { IfErr result (λ e. (e ≡ Error.Overflow) ⊎ (e ≡ Error.OutOfMemory)) }
+        ensures only { OnlyOverflowOrOutOfMemory result }
     {
         let Some(count) = capacity.checked_add(1) else {
             return Err(Error::Overflow);
@@ -134,7 +134,7 @@ impl<O: Offset> Offsets<O> {
         ensures overflow { IsErrOf result Error.Overflow →
             (it : I.IntoIter) × I.into_iter_gives iter it
             × MayYieldPast O.MAX 0 I.IntoIter.next_gives it }
-        ensures only { IfErr result (λ e. (e ≡ Error.Overflow) ⊎ (e ≡ Error.OutOfMemory)) }
+        ensures only { OnlyOverflowOrOutOfMemory result }
     {
         Offsets::try_from_lengths(alloc, iter.into_iter())
     }
@@ -159,7 +159,7 @@ impl<O: Offset> Offsets<O> {
         // `Overflow` comes only where the iterator may yield lengths whose sum passes `O::MAX`. The argument 0 is the
         // last offset before any length is appended.
         ensures overflow { IsErrOf result Error.Overflow → MayYieldPast O.MAX 0 I.next_gives lengths }
-        ensures only { IfErr result (λ e. (e ≡ Error.Overflow) ⊎ (e ≡ Error.OutOfMemory)) }
+        ensures only { OnlyOverflowOrOutOfMemory result }
     {
         let mut offsets = Offsets::with_capacity(alloc, LEAST_CAPACITY)?;
         offsets.extend_lengths(lengths)?;
@@ -192,7 +192,7 @@ impl<O: Offset> Offsets<O> {
         ensures within_capacity { slots self.old ≤ self.old.capacity }
         // Within the capacity it succeeds. `OutOfMemory` is the only error.
         ensures succeeds { slots self.old + additional ≤ self.old.capacity → IsOk result }
-        ensures only { IfErr result (λ e. e ≡ Error.OutOfMemory) }
+        ensures only { OnlyOutOfMemory result }
     {
         self.reserve_capacity(additional)?;
         Ok(())

@@ -1,7 +1,8 @@
 -- The contract of growth of an array.
-use Rattle.std.specs.Prelude.{◌≡◌, ◌+◌, ◌≤◌, ◌^◌, ◌↔◌, ◌⊎◌, List, ◌++◌, Option, length, Result, OnOk, OnErr, IsOk, IfErr, IsErrOf}
+use Rattle.std.specs.Prelude.{◌≡◌, ◌+◌, ◌≤◌, ◌^◌, ◌↔◌, List, ◌++◌, Option, length, Result, OnOk, OnErr, IsOk, IsErrOf}
 use Rattle.arrow2_types.specs.declared.error.Error.{Error}
-use Rattle.arrow2_types.specs.declared.error.Error.TheVariants.{Overflow, OutOfMemory}
+use Rattle.arrow2_types.specs.declared.error.Error.TheVariants.{Overflow}
+use Rattle.arrow2_types.specs.Failures.{OnlyOverflowOrOutOfMemory}
 use Rattle.arrow2_primitive.specs.Primitive.{GrowingPrimitive}
 
 -- growth by these items, all of them or none
@@ -15,7 +16,7 @@ pub record AppendsItems {T X : Type 0} (r : Result T Error) (old new : GrowingPr
   -- `Overflow` comes exactly where there would be more items than a usize counts
   pub overflow : IsErrOf r Overflow ↔ (2 ^ 64 ≤ length old.items + length more)
   -- the only other error is running out of memory
-  pub only : IfErr r (λ e. (e ≡ Overflow) ⊎ (e ≡ OutOfMemory))
+  pub only : OnlyOverflowOrOutOfMemory r
   -- within the capacity it succeeds
   pub succeeds : length old.items + length more ≤ old.capacity → IsOk r
   -- the capacity never falls

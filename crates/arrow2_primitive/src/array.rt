@@ -1,5 +1,5 @@
 //! An array of nullable native values.
-ghost use Rattle.std.specs.Prelude.{◌≡◌, ◌+◌, ◌<◌, ◌≤◌, ◌↔◌, None, Some, length, map, count_by, replicate, true, slice_index_or, ⊤, OnOk, IsNone, IsOk, IfOk, IfErr, IfSome, IsTrue, MatchOption, option_map};
+ghost use Rattle.std.specs.Prelude.{◌≡◌, ◌+◌, ◌<◌, ◌≤◌, ◌↔◌, None, Some, length, map, count_by, replicate, true, slice_index_or, ⊤, OnOk, IsNone, IsOk, IfOk, IfSome, IsTrue, MatchOption, option_map};
 ghost use Rattle.std.specs.List.{slice_get};
 ghost use Rattle.std.specs.Option.{ForSome, is_none, is_some};
 ghost use Rattle.std.specs.Slice.Iter.{iter_rest};
@@ -9,7 +9,7 @@ ghost use Rattle.arrow2_model.specs.Parts.{part};
 ghost use Rattle.arrow2_bitmap.specs.PackedBitmaps.{IsPacked};
 ghost use Rattle.arrow2_walks.specs.Selections.{non_null_values};
 ghost use Rattle.arrow2_model.specs.Storage.{items_of};
-ghost use Rattle.arrow2_types.specs.Failures.{FailsOnlyWith};
+ghost use Rattle.arrow2_types.specs.Failures.{FailsOnlyWith, OnlyOutOfMemory};
 ghost use Rattle.arrow2_validity.specs.OptionalValidity.{valid_items};
 ghost use Rattle.arrow2_validity.specs.Failures.{unequal_lengths_message};
 ghost use Rattle.arrow2_walks.specs.Zipped.{zipped};
@@ -115,7 +115,7 @@ impl<T: NativeType> PrimitiveArray<T> {
             ¬ (physical data_type ≡ Primitive T.PRIMITIVE) →
             FailsOnlyWith result other_layout_message }
         ensures only { ForSome validity (λ v. length (items_of v) ≡ length (buffer_items values)) →
-            physical data_type ≡ Primitive T.PRIMITIVE → IfErr result (λ e. e ≡ Error.OutOfMemory) }
+            physical data_type ≡ Primitive T.PRIMITIVE → OnlyOutOfMemory result }
     {
         let alloc = values.allocator();
         let validity = Validity::try_new(values.len(), validity)?;
@@ -165,7 +165,7 @@ impl<T: NativeType> PrimitiveArray<T> {
         ensures data_type { IfOk result (λ a. a.data_type ≡ of_primitive T.PRIMITIVE) }
         ensures storage { IfOk result (λ a. a.values ≡ whole_buffer values.items) }
         ensures bitmap { IfOk result (λ a. IsNone a.validity.bitmap) }
-        ensures only { IfErr result (λ e. e ≡ Error.OutOfMemory) }
+        ensures only { OnlyOutOfMemory result }
     {
         let data_type = native_type::<T>(*values.allocator())?;
         let values = Buffer::try_from(values)?;
@@ -182,7 +182,7 @@ impl<T: NativeType> PrimitiveArray<T> {
         ensures data_type { IfOk result (λ a. a.data_type ≡ of_primitive T.PRIMITIVE) }
         ensures storage { IfOk result (λ a. a.values ≡ whole_buffer values.now) }
         ensures bitmap { IfOk result (λ a. IsNone a.validity.bitmap) }
-        ensures only { IfErr result (λ e. e ≡ Error.OutOfMemory) }
+        ensures only { OnlyOutOfMemory result }
     {
         PrimitiveArray::from_vec(Vec::from_slice(alloc, values)?)
     }
@@ -202,7 +202,7 @@ impl<T: NativeType> PrimitiveArray<T> {
         ensures bitmap { IfOk result (λ a.
             IsNone a.validity.bitmap ↔ (count_by is_none items.now ≡ 0)) }
         ensures packed { IfOk result (λ a. IfSome a.validity.bitmap (λ b. IsPacked b)) }
-        ensures only { IfErr result (λ e. e ≡ Error.OutOfMemory) }
+        ensures only { OnlyOutOfMemory result }
     {
         let data_type = native_type::<T>(alloc)?;
         let values = Buffer::try_from(values_of(alloc, items)?)?;
@@ -394,7 +394,7 @@ impl<T: NativeType> PrimitiveArray<T> {
         ensures begins { IfSome self.validity.bitmap (λ b.
             IfOk result (λ r. MatchEither r (λ _. ⊤) (λ _. b.offset ≡ 0))) }
         ensures succeeds { ¬ (self.values ≡ whole_buffer self.values.storage) → IsOk result }
-        ensures only { IfErr result (λ e. e ≡ Error.OutOfMemory) }
+        ensures only { OnlyOutOfMemory result }
     {
         let PrimitiveArray {
             data_type,

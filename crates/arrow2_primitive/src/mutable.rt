@@ -1,5 +1,5 @@
 //! An array of native values that grows.
-ghost use Rattle.std.specs.Prelude.{◌≡◌, ◌+◌, ◌<◌, ◌≤◌, ◌^◌, ◌↔◌, ◌⊎◌, ◌++◌, [], ◌∷◌, None, Some, length, map, replicate, IfOk, IfErr, IfSome, IsErrOf, IsOk, IfNone, MatchOption, OnErr, OnOk, IsNone, IsTrue, count_by, Some};
+ghost use Rattle.std.specs.Prelude.{◌≡◌, ◌+◌, ◌<◌, ◌≤◌, ◌^◌, ◌↔◌, ◌++◌, [], ◌∷◌, None, Some, length, map, replicate, IfOk, IfSome, IsErrOf, IsOk, IfNone, MatchOption, OnErr, OnOk, IsNone, IsTrue, count_by, Some};
 ghost use Rattle.std.specs.Option.{is_none};
 ghost use Rattle.std.specs.Iterator.{IsFinite, IsFiniteIterable};
 ghost use Rattle.std.specs.Iterator.Runs.{WholeRun};
@@ -13,6 +13,7 @@ ghost use Rattle.arrow2_types.specs.declared.growth_error.GrowthError.TheVariant
 ghost use Rattle.arrow2_walks.specs.Zipped.{zipped};
 ghost use Rattle.arrow2_primitive.specs.Growth.{AppendsItems};
 ghost use Rattle.arrow2_primitive.specs.Primitive.{primitive_items, GrowingPrimitive};
+ghost use Rattle.arrow2_types.specs.Failures.{OnlyOutOfMemory, OnlyOverflowOrOutOfMemory};
 
 use crate::array::{PrimitiveArray, native_type};
 use arrow2_bitmap::MutableBitmap;
@@ -91,7 +92,7 @@ impl<T: NativeType> MutablePrimitiveArray<T> {
         ensures items { IfOk result (λ a. a.items ≡ []) }
         ensures data_type { IfOk result (λ a. a.data_type ≡ of_primitive T.PRIMITIVE) }
         ensures layout { IfOk result (λ a. physical a.data_type ≡ Primitive T.PRIMITIVE) }
-        ensures only { IfErr result (λ e. e ≡ Error.OutOfMemory) }
+        ensures only { OnlyOutOfMemory result }
     {
         MutablePrimitiveArray::with_capacity(alloc, 0)
     }
@@ -107,7 +108,7 @@ impl<T: NativeType> MutablePrimitiveArray<T> {
         ensures capacity { IfOk result (λ a. capacity ≤ a.capacity) }
         ensures data_type { IfOk result (λ a. a.data_type ≡ of_primitive T.PRIMITIVE) }
         ensures layout { IfOk result (λ a. physical a.data_type ≡ Primitive T.PRIMITIVE) }
-        ensures only { IfErr result (λ e. e ≡ Error.OutOfMemory) }
+        ensures only { OnlyOutOfMemory result }
     {
         Ok(MutablePrimitiveArray {
             data_type: native_type::<T>(alloc)?,
@@ -139,7 +140,7 @@ impl<T: NativeType> MutablePrimitiveArray<T> {
     pub fn like(array: &PrimitiveArray<T>) -> Result<MutablePrimitiveArray<T>>
         ensures items { IfOk result (λ a. a.items ≡ []) }
         ensures data_type { IfOk result (λ a. a.data_type ≡ array.now.data_type) }
-        ensures only { IfErr result (λ e. e ≡ Error.OutOfMemory) }
+        ensures only { OnlyOutOfMemory result }
     {
         let data_type = array.data_type().clone()?;
         Ok(MutablePrimitiveArray::of_type(array.values().allocator(), data_type))
@@ -167,7 +168,7 @@ impl<T: NativeType> MutablePrimitiveArray<T> {
         // `Overflow` comes only where a run may have too many items.
         ensures overflow { IsErrOf result Error.Overflow →
             (it : I.IntoIter) × I.into_iter_gives iter it × MayYieldTooMany I.IntoIter.next_gives it }
-        ensures only { IfErr result (λ e. (e ≡ Error.Overflow) ⊎ (e ≡ Error.OutOfMemory)) }
+        ensures only { OnlyOverflowOrOutOfMemory result }
     {
         MutablePrimitiveArray::collect_items(alloc, iter.into_iter())
     }
@@ -182,7 +183,7 @@ impl<T: NativeType> MutablePrimitiveArray<T> {
         ensures items { IfOk result (λ a. WholeRun I.next_gives items (λ p. a.items ≡ p.items)) }
         ensures data_type { IfOk result (λ a. a.data_type ≡ of_primitive T.PRIMITIVE) }
         ensures overflow { IsErrOf result Error.Overflow → MayYieldTooMany I.next_gives items }
-        ensures only { IfErr result (λ e. (e ≡ Error.Overflow) ⊎ (e ≡ Error.OutOfMemory)) }
+        ensures only { OnlyOverflowOrOutOfMemory result }
     {
         let mut array = MutablePrimitiveArray::new(alloc)?;
         for item in items {
@@ -254,7 +255,7 @@ impl<T: NativeType> MutablePrimitiveArray<T> {
         // When each error comes, and when none does.
         ensures overflow { IsErrOf result Error.Overflow ↔
             (2 ^ 64 ≤ length self.old.items + additional) }
-        ensures only { IfErr result (λ e. (e ≡ Error.Overflow) ⊎ (e ≡ Error.OutOfMemory)) }
+        ensures only { OnlyOverflowOrOutOfMemory result }
         ensures succeeds { length self.old.items + additional ≤ self.old.capacity → IsOk result }
         // The capacity never falls.
         ensures capacity { self.old.capacity ≤ self.new.capacity }
@@ -418,7 +419,7 @@ impl<T: NativeType> MutablePrimitiveArray<T> {
             IsNone a.validity.bitmap ↔ (count_by is_none self.items ≡ 0)) }
         ensures storage { IfOk result (λ a. a.values ≡ whole_buffer (buffer_items a.values)) }
         ensures packed { IfOk result (λ a. IfSome a.validity.bitmap (λ b. IsPacked b)) }
-        ensures only { IfErr result (λ e. e ≡ Error.OutOfMemory) }
+        ensures only { OnlyOutOfMemory result }
     {
         let MutablePrimitiveArray {
             data_type,

@@ -1,16 +1,17 @@
 //! New bitmaps from three and four bitmaps: word functions, and truth tables.
-ghost use Rattle.std.specs.Prelude.{◌≡◌, ℕ, [], ◌∷◌, length, IfOk, IfErr};
+ghost use Rattle.std.specs.Prelude.{◌≡◌, ℕ, [], ◌∷◌, length, IfOk};
 ghost use Rattle.arrow2_model.specs.Kernels.{ternary_kernel, quaternary_kernel, ComputesTernary, ComputesQuaternary};
 ghost use Rattle.arrow2_model.specs.Storage.{bitmap_word, items_of};
 ghost use Rattle.arrow2_model.specs.Tables.{each, IsBitwiseTernary, IsBitwiseQuaternary};
 ghost use Rattle.arrow2_kernels.specs.WordResults.{AreJoinedResults};
 ghost use Rattle.arrow2_bitmap.specs.PackedBitmaps.{IsPacked};
+ghost use Rattle.arrow2_types.specs.Failures.{OnlyOutOfMemory};
 
 use arrow2_bitmap::Bitmap;
 use arrow2_bitmap::bitmap_ops::from_rows;
 use arrow2_kernels::truth_tables::{quaternary_outputs, ternary_outputs};
 use arrow2_kernels::{OneList, Pair, ZipRows};
-use arrow2_types::{Error, Result};
+use arrow2_types::Result;
 
 /// Reads the items of the three bitmaps as words of 64 bits, the last ones padded with false, applies `op` to the three
 /// words at each index, and returns the bits of the results, cut to the length of the bitmaps. The first item of a word
@@ -53,7 +54,7 @@ pub fn ternary<F: Fn(u64, u64, u64) -> u64>(
     // The bitmap has as many items as `a1`, in canonical bytes. The only error is `OutOfMemory`.
     ensures len { IfOk result (λ b. length (items_of b) ≡ length (items_of a1.now)) }
     ensures storage { IfOk result (λ b. IsPacked b) }
-    ensures only { IfErr result (λ e. e ≡ Error.OutOfMemory) }
+    ensures only { OnlyOutOfMemory result }
 {
     let a1_words = OneList {
         chunks: a1.chunks::<u64>(),
@@ -120,7 +121,7 @@ pub fn quaternary<F: Fn(u64, u64, u64, u64) -> u64>(
     // The bitmap has as many items as `a1`, in canonical bytes. The only error is `OutOfMemory`.
     ensures len { IfOk result (λ b. length (items_of b) ≡ length (items_of a1.now)) }
     ensures storage { IfOk result (λ b. IsPacked b) }
-    ensures only { IfErr result (λ e. e ≡ Error.OutOfMemory) }
+    ensures only { OnlyOutOfMemory result }
 {
     let rows = ZipRows {
         left: pair(a1, a2),
@@ -165,7 +166,7 @@ pub fn ternary_table(a1: &Bitmap, a2: &Bitmap, a3: &Bitmap, t: u8) -> Result<Bit
         ≡ each t (items_of a1.now ∷ items_of a2.now ∷ items_of a3.now ∷ [])) }
     ensures len { IfOk result (λ b. length (items_of b) ≡ length (items_of a1.now)) }
     ensures storage { IfOk result (λ b. IsPacked b) }
-    ensures only { IfErr result (λ e. e ≡ Error.OutOfMemory) }
+    ensures only { OnlyOutOfMemory result }
 {
     ternary(a1, a2, a3, |x, y, z| ternary_outputs(u16::from(t), x, y, z))
 }
@@ -196,7 +197,7 @@ pub fn quaternary_table(
     // The bitmap has as many items as `a1`, in canonical bytes. The only error is `OutOfMemory`.
     ensures len { IfOk result (λ b. length (items_of b) ≡ length (items_of a1.now)) }
     ensures storage { IfOk result (λ b. IsPacked b) }
-    ensures only { IfErr result (λ e. e ≡ Error.OutOfMemory) }
+    ensures only { OnlyOutOfMemory result }
 {
     quaternary(
         a1,

@@ -1,22 +1,27 @@
 -- Items that are appended together: their bytes, and growth by them as growth by slots.
 use Rattle.std.proofs.Common.{Bor, ◌≡◌, ◌∙◌, ℕ, zero, suc, ◌+◌, ◌<◌, ◌≤◌, List, [], ◌∷◌, All, length, map, replicate, sum, take, get_or, refl, ap, sym, arith}
-use Rattle.std.specs.Prelude.{IsUtf8, IfSome, OnOk, Option, Some, None, Result, Ok, Err, is_some}
+use Rattle.std.specs.Prelude.{IfSome, OnOk, Option, Some, None, Result, Ok, Err, is_some}
 use Rattle.std.specs.Option.{option_copied, option_map_or, unwrap_or}
 use Rattle.std.proofs.lemmas.List.{length-append, length-map, length-take}
 use Rattle.std.proofs.lemmas.List.Elements.{All-map, All-replicate}
 use Rattle.std.proofs.lemmas.List.Sums.{sum_by-cons}
 use Rattle.std.proofs.lemmas.Simd.{map-map}
-use Rattle.std.proofs.lemmas.Str.{IsUtf8-nil}
 use Rattle.arrow2_types.specs.declared.error.Error.{Error}
 use Rattle.arrow2_walks.specs.Zipped.{zipped}
-use Rattle.arrow2_text.specs.AllTexts.{AreUtf8}
+use Rattle.arrow2_text.specs.Values.{AreValues}
 use Rattle.arrow2_text.specs.Growth.{AppendsBinary, AppendsSlots, GrowingSlots, GrownBySlots, HasCapacityFor, bytes_of_items, growing_binary, values_of_items}
+use Rattle.arrow2_text.proofs.GrowingValues.{one-value}
 use Rattle.arrow2_text.proofs.GrowthItems.{appends-items}
 
 -- the bytes of a value, by its item
 pub bytes-by_option : (r : Option (Bor (List ℕ))) (u e : Bor (List ℕ)) (o : Option (List ℕ)) → option_copied r ≡ o → u ≡ unwrap_or r e → e.now ≡ [] → length u.now ≡ option_map_or length o 0
 bytes-by_option None u e o is made none = ap (λ b. length b.now) made ∙ (ap length none ∙ ap (λ p. option_map_or length p 0) is)
 bytes-by_option (Some v) u e o is made none = ap (λ b. length b.now) made ∙ ap (λ p. option_map_or length p 0) is
+
+-- the bytes themselves
+pub value-by_option : (r : Option (Bor (List ℕ))) (u e : Bor (List ℕ)) → u ≡ unwrap_or r e → e.now ≡ [] → u.now ≡ unwrap_or (option_copied r) []
+value-by_option None u e made none = ap (λ b. b.now) made ∙ none
+value-by_option (Some v) u e made none = ap (λ b. b.now) made
 
 module _ {X : Type 0} (size : X → ℕ) where
   -- no more than all are those so far and one more
@@ -73,14 +78,22 @@ appends-given max old new items bytes r a =
 pub bytes-of_values : (values : List (Bor (List ℕ))) → bytes_of_items (map (λ value. Some value.now) values) ≡ sum (map (λ value. length value.now) values)
 bytes-of_values values = ap sum (map-map (λ o. option_map_or length o 0) (λ value. Some value.now) values)
 
-text-or-none : (o : Option (List ℕ)) → IfSome o IsUtf8 → IsUtf8 (unwrap_or o [])
-text-or-none None h = IsUtf8-nil
-text-or-none (Some x) h = h
+-- values of which something holds, also of no bytes
+module _ (IsValue : List ℕ → Type 0) (no_bytes : IsValue []) where
+  value-or-none : (o : Option (List ℕ)) → IfSome o IsValue → IsValue (unwrap_or o [])
+  value-or-none None h = no_bytes
+  value-or-none (Some x) h = h
 
--- items whose values are UTF-8
-pub known-texts : {T X : Type 0} (r : Result T Error) (item : X → Option (List ℕ)) (xs : List X) → OnOk r (All (λ x. IfSome (item x) IsUtf8) xs) → OnOk r (AreUtf8 (values_of_items (map item xs)))
-known-texts (Err e) item xs h = tt
-known-texts (Ok t) item xs h = record { texts = rw (map-map (λ o. unwrap_or o []) item xs) (All-map IsUtf8 (λ x. unwrap_or (item x) []) xs (λ k d below. text-or-none _ (h k d below))) }
+  pub one-known : (o : Option (List ℕ)) (y : List ℕ) → y ≡ unwrap_or o [] → IfSome o IsValue → AreValues IsValue (y ∷ [])
+  one-known o y e h = one-value IsValue y (rw e (value-or-none o h))
+
+  pub known-values : {T X : Type 0} (r : Result T Error) (item : X → Option (List ℕ)) (xs : List X) → OnOk r (All (λ x. IfSome (item x) IsValue) xs) → OnOk r (AreValues IsValue (values_of_items (map item xs)))
+  known-values (Err e) item xs h = tt
+  known-values (Ok t) item xs h = record { each = rw (map-map (λ o. unwrap_or o []) item xs) (All-map IsValue (λ x. unwrap_or (item x) []) xs (λ k d below. value-or-none _ (h k d below))) }
+
+  -- copies of a value, or of a null
+  pub copied-values : (n : ℕ) (item : Option (List ℕ)) → IfSome item IsValue → AreValues IsValue (replicate n (unwrap_or item []))
+  copied-values n item h = record { each = All-replicate IsValue n (unwrap_or item []) (value-or-none item h) }
 
 -- copies of an item
 module _ (n : ℕ) (item : Option (List ℕ)) where
@@ -90,7 +103,3 @@ module _ (n : ℕ) (item : Option (List ℕ)) where
 
   pub appends-copies : {T : Type 0} (max : ℕ) (old new : GrowingSlots) (bytes : ℕ) (r : Result T Error) → AppendsSlots max r old new (replicate n (unwrap_or item [])) (replicate n (is_some item)) bytes → AppendsBinary max r (growing_binary old) (growing_binary new) (replicate n item) bytes
   appends-copies max old new bytes r a = appends-given max old new (replicate n item) bytes r (rw (copies (λ o. unwrap_or o []) n, copies is_some n) a)
-
--- copies of a value that is UTF-8, or of a null
-pub copied-texts : (n : ℕ) (item : Option (List ℕ)) → IfSome item IsUtf8 → AreUtf8 (replicate n (unwrap_or item []))
-copied-texts n item h = record { texts = All-replicate IsUtf8 n (unwrap_or item []) (text-or-none item h) }

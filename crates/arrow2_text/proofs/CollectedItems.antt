@@ -1,7 +1,7 @@
 -- Items that are collected one by one: they, and how many bytes they have.
-use Rattle.std.proofs.Common.{Bor, ◌≡◌, ◌∙◌, ℕ, ◌+◌, ◌<◌, ◌≤◌, ◌^◌, ◌⊎◌, inl, inr, List, [], ◌∷◌, ◌++◌, length, map, sum, cond, count_by, refl, ap, sym, arith}
+use Rattle.std.proofs.Common.{◌≡◌, ◌∙◌, ℕ, ◌+◌, ◌<◌, ◌≤◌, ◌^◌, ◌⊎◌, inl, inr, List, [], ◌∷◌, ◌++◌, length, map, sum, cond, count_by, refl, ap, sym, arith}
 use Rattle.std.specs.Prelude.{Option, Some, Result, Ok, Err, IfErr, IfOk, IsErrAnd, IsNone, ◌↔◌}
-use Rattle.std.specs.Option.{is_none, option_copied, option_map_or}
+use Rattle.std.specs.Option.{is_none, option_map_or}
 use Rattle.std.proofs.lemmas.List.Sums.{sum_by-cons}
 use Rattle.std.proofs.lemmas.List.{length-append, length-map, map-append}
 use Rattle.arrow2_offset.proofs.Appending.{sum-push}
@@ -9,35 +9,35 @@ use Rattle.arrow2_types.specs.declared.error.Error.{Error}
 use Rattle.arrow2_types.specs.declared.error.Error.TheVariants.{OutOfMemory, Overflow}
 use Rattle.arrow2_datatypes.specs.declared.DataType.{DataType}
 use Rattle.arrow2_text.specs.Binary.{BinaryParts, binary_items}
-use Rattle.arrow2_text.specs.Growth.{bytes_of_items, items_by_bytes}
+use Rattle.arrow2_text.specs.Growth.{bytes_of_items}
 use Rattle.arrow2_model.specs.Buffers.{buffer_items}
 
 -- one item more has its bytes more
 pub bytes-more : (items : List (Option (List ℕ))) (item : Option (List ℕ)) → bytes_of_items (items ++ item ∷ []) ≡ bytes_of_items items + option_map_or length item 0
 bytes-more items item = ap sum (map-append (λ o. option_map_or length o 0) items (item ∷ [])) ∙ sum-push (map (λ o. option_map_or length o 0) items) (option_map_or length item 0)
 
-module _ (came : List (Option (Bor (List ℕ)))) (item : Option (Bor (List ℕ))) where
-  one-more : items_by_bytes (came ++ item ∷ []) ≡ items_by_bytes came ++ option_copied item ∷ []
-  one-more = map-append option_copied came (item ∷ [])
+module _ {X : Type 0} (item_of : X → Option (List ℕ)) (came : List X) (item : X) where
+  one-more : map item_of (came ++ item ∷ []) ≡ map item_of came ++ item_of item ∷ []
+  one-more = map-append item_of came (item ∷ [])
 
-  pub items-collected : {items : List (Option (List ℕ))} → items ≡ items_by_bytes came → items ++ option_copied item ∷ [] ≡ items_by_bytes (came ++ item ∷ [])
-  items-collected e = ap (λ l. l ++ option_copied item ∷ []) e ∙ sym one-more
+  pub items-collected : {items : List (Option (List ℕ))} → items ≡ map item_of came → items ++ item_of item ∷ [] ≡ map item_of (came ++ item ∷ [])
+  items-collected e = ap (λ l. l ++ item_of item ∷ []) e ∙ sym one-more
 
-  all-bytes : bytes_of_items (items_by_bytes (came ++ item ∷ [])) ≡ bytes_of_items (items_by_bytes came) + option_map_or length (option_copied item) 0
-  all-bytes = ap bytes_of_items one-more ∙ bytes-more (items_by_bytes came) (option_copied item)
+  all-bytes : bytes_of_items (map item_of (came ++ item ∷ [])) ≡ bytes_of_items (map item_of came) + option_map_or length (item_of item) 0
+  all-bytes = ap bytes_of_items one-more ∙ bytes-more (map item_of came) (item_of item)
 
-  pub bytes-collected : {bytes : ℕ} → bytes ≡ bytes_of_items (items_by_bytes came) → bytes + option_map_or length (option_copied item) 0 ≡ bytes_of_items (items_by_bytes (came ++ item ∷ []))
-  bytes-collected e = ap (λ n. n + option_map_or length (option_copied item) 0) e ∙ sym all-bytes
+  pub bytes-collected : {bytes : ℕ} → bytes ≡ bytes_of_items (map item_of came) → bytes + option_map_or length (item_of item) 0 ≡ bytes_of_items (map item_of (came ++ item ∷ []))
+  bytes-collected e = ap (λ n. n + option_map_or length (item_of item) 0) e ∙ sym all-bytes
 
 -- where one more item is too many, or its bytes are
-module _ (greatest : ℕ) (came : List (Option (Bor (List ℕ)))) (item : Option (Bor (List ℕ))) {items : List (Option (List ℕ))} {bytes : ℕ} where
-  pub past-collected : items ≡ items_by_bytes came → bytes ≡ bytes_of_items (items_by_bytes came)
-      → (greatest < bytes + option_map_or length (option_copied item) 0) ⊎ (2 ^ 64 ≤ length items + length (option_copied item ∷ []))
-      → (greatest < bytes_of_items (items_by_bytes (came ++ item ∷ []))) ⊎ (2 ^ 64 ≤ length (came ++ item ∷ []))
-  past-collected e is (inl past) = let all = bytes-collected came item is in inl (omega (arith, all, past))
+module _ {X : Type 0} (item_of : X → Option (List ℕ)) (greatest : ℕ) (came : List X) (item : X) {items : List (Option (List ℕ))} {bytes : ℕ} where
+  pub past-collected : items ≡ map item_of came → bytes ≡ bytes_of_items (map item_of came)
+      → (greatest < bytes + option_map_or length (item_of item) 0) ⊎ (2 ^ 64 ≤ length items + length (item_of item ∷ []))
+      → (greatest < bytes_of_items (map item_of (came ++ item ∷ []))) ⊎ (2 ^ 64 ≤ length (came ++ item ∷ []))
+  past-collected e is (inl past) = let all = bytes-collected item_of came item is in inl (omega (arith, all, past))
   past-collected e is (inr many) =
       let l = length-append came (item ∷ []) in
-      let m = length-map came option_copied in
+      let m = length-map came item_of in
       let n = ap length e in
       inr (omega (arith, l, m, n, many))
 

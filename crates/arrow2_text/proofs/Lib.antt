@@ -1,6 +1,6 @@
 pub mod AppendedItems
 pub mod CollectedItems
-pub mod GrowingTexts
+pub mod GrowingValues
 pub mod GrowthItems
 pub mod LastSlot
 pub mod CapacityForSlots
@@ -8,4 +8,3 @@ pub mod SlotPushes
 pub mod SameSlots
 pub mod SlotItems
 pub mod SlotLists
-pub mod TextItems

@@ -1,6 +1,6 @@
 -- Items of an array from the values of its slots.
 use Rattle.std.proofs.Common.{Bor, ◌≡◌, ℕ, ◌<◌, List, Bool, true, false, length, get_or, ap, sym, refl, ◌∙◌, arith}
-use Rattle.std.specs.Prelude.{Option, Some, None, IsTrue, is_some}
+use Rattle.std.specs.Prelude.{IfSome, Option, Some, None, IsTrue, is_some}
 use Rattle.std.specs.Bool.{then_some}
 use Rattle.std.specs.Option.{option_copied}
 use Rattle.arrow2_walks.specs.Zipped.{slot, zipped}
@@ -23,3 +23,8 @@ copied-item x true (Some y) e h = sym (h refl)
 copied-item x true None e h = let no : true ≡ false = e in cc
 copied-item x false None e h = refl
 copied-item x false (Some y) e h = let no : false ≡ true = e in cc
+
+-- what holds of a value holds of its item
+pub copied-known : (P : List ℕ → Type 0) (x : Bor (List ℕ)) (v : Bool) (o : Option (Bor (List ℕ))) → o ≡ then_some v x → P x.now → IfSome (option_copied o) P
+copied-known P x true o e h = rw e h
+copied-known P x false o e h = rw e tt

@@ -1,11 +1,10 @@
 -- The errors for parts that are no array.
-use Rattle.std.specs.Prelude.{◌≡◌, ℕ, List, ℤ, Option, codes, length, Result, IfErr, OnOk}
+use Rattle.std.specs.Prelude.{◌≡◌, ℕ, List, ℤ, Option, codes, length, Result, OnOk}
 use Rattle.std.specs.Option.{ForSome}
 use Rattle.arrow2_model.specs.Buffers.{BufferStorage}
 use Rattle.arrow2_model.specs.Storage.{BitmapStorage, items_of}
 use Rattle.arrow2_types.specs.declared.error.Error.{Error}
-use Rattle.arrow2_types.specs.declared.error.Error.TheVariants.{OutOfMemory}
-use Rattle.arrow2_types.specs.Failures.{FailsOnlyWith}
+use Rattle.arrow2_types.specs.Failures.{FailsOnlyWith, OnlyOutOfMemory}
 use Rattle.arrow2_validity.specs.Failures.{unequal_lengths_message}
 use Rattle.arrow2_text.specs.Binary.{HasBitPerSlot, slots_between}
 
@@ -34,4 +33,4 @@ pub record RejectsParts {T : Type 0} (r : Result T Error) (offsets : BufferStora
   pub unequal : Fits → ForSome validity (λ v. ¬ (length (items_of v) ≡ slots_between offsets) → FailsOnlyWith r (unequal_lengths_message (length (items_of v)) (slots_between offsets)))
   pub layout : Fits → HasBitPerSlot offsets validity → ¬ LaidOut → FailsOnlyWith r other_layout
   -- for parts that fit, the only error is running out of memory
-  pub only : Fits → HasBitPerSlot offsets validity → LaidOut → IfErr r (λ e. e ≡ OutOfMemory)
+  pub only : Fits → HasBitPerSlot offsets validity → LaidOut → OnlyOutOfMemory r

@@ -1,10 +1,11 @@
 -- The contracts of growth of arrays of byte strings and of texts.
-use Rattle.std.specs.Prelude.{◌≡◌, ℕ, ◌+◌, ◌*◌, ◌<◌, ◌≤◌, ◌^◌, ◌↔◌, ◌⊎◌, List, [], ◌∷◌, ◌++◌, Bool, false, Option, None, length, map, replicate, sum, slice_index_or, option_map, MatchOption, IfNone, IfSome, Result, OnOk, OnErr, IsOk, IfErr, IfOk, IsErrOf}
+use Rattle.std.specs.Prelude.{◌≡◌, ℕ, ◌+◌, ◌*◌, ◌<◌, ◌≤◌, ◌^◌, ◌↔◌, ◌⊎◌, List, [], ◌∷◌, ◌++◌, Bool, false, Option, None, length, map, replicate, sum, slice_index_or, option_map, MatchOption, IfNone, IfSome, Result, OnOk, OnErr, IsOk, IfOk, IsErrOf}
 use Rattle.std.specs.Option.{is_some, option_copied, option_map_or, unwrap_or}
 use Rattle.std.specs.Iterator.{Yields}
 use Rattle.std.specs.Borrow.{Bor}
 use Rattle.arrow2_types.specs.declared.error.Error.{Error}
-use Rattle.arrow2_types.specs.declared.error.Error.TheVariants.{Overflow, OutOfMemory}
+use Rattle.arrow2_types.specs.declared.error.Error.TheVariants.{Overflow}
+use Rattle.arrow2_types.specs.Failures.{OnlyOutOfMemory, OnlyOverflowOrOutOfMemory}
 use Rattle.arrow2_walks.specs.Zipped.{slot, zipped}
 use Rattle.either.specs.Either.{MatchEither}
 use Rattle.either.specs.declared.Either.{Either}
@@ -66,7 +67,7 @@ pub record AppendsBinary {T : Type 0} (greatest : ℕ) (r : Result T Error) (old
   -- counts
   pub overflow : IsErrOf r Overflow ↔ ((greatest < old.bytes + bytes) ⊎ (2 ^ 64 ≤ length old.items + length more))
   -- the only other error is running out of memory
-  pub only : IfErr r (λ e. (e ≡ Overflow) ⊎ (e ≡ OutOfMemory))
+  pub only : OnlyOverflowOrOutOfMemory r
   -- within both capacities and `greatest` it succeeds
   pub succeeds : length old.items + length more ≤ old.capacity → old.bytes + bytes ≤ old.byte_capacity → old.bytes + bytes ≤ greatest → IsOk r
   -- no capacity falls
@@ -93,7 +94,7 @@ pub record AppendsSlots {T : Type 0} (greatest : ℕ) (r : Result T Error) (old 
   -- counts
   pub overflow : IsErrOf r Overflow ↔ ((greatest < old.bytes + bytes) ⊎ (2 ^ 64 ≤ length old.valid + length valid))
   -- the only other error is running out of memory
-  pub only : IfErr r (λ e. (e ≡ Overflow) ⊎ (e ≡ OutOfMemory))
+  pub only : OnlyOverflowOrOutOfMemory r
   -- within both capacities and `greatest` it succeeds
   pub succeeds : length old.valid + length valid ≤ old.capacity → old.bytes + bytes ≤ old.byte_capacity → old.bytes + bytes ≤ greatest → IsOk r
   -- no capacity falls
@@ -117,7 +118,7 @@ pub record ReservesSlots {T : Type 0} (greatest : ℕ) (r : Result T Error) (old
   -- counts
   pub overflow : IsErrOf r Overflow ↔ ((greatest < old.bytes + size) ⊎ (2 ^ 64 ≤ length old.valid + count))
   -- the only other error is running out of memory
-  pub only : IfErr r (λ e. (e ≡ Overflow) ⊎ (e ≡ OutOfMemory))
+  pub only : OnlyOverflowOrOutOfMemory r
   -- within both capacities and `greatest` it succeeds
   pub succeeds : length old.valid + count ≤ old.capacity → old.bytes + size ≤ old.byte_capacity → old.bytes + size ≤ greatest → IsOk r
   -- no capacity falls
@@ -165,7 +166,7 @@ pub record PopsBinary {V : Type 0} (bytes_of : V → List ℕ) (r : Result (Opti
   pub capacity : new.capacity ≡ old.capacity
   pub byte_capacity : new.byte_capacity ≡ old.byte_capacity
   -- the only error is running out of memory; it never comes where the last item is null, or where there is none
-  pub only : IfErr r (λ e. e ≡ OutOfMemory)
+  pub only : OnlyOutOfMemory r
   pub succeeds : (front : List (Option (List ℕ))) → old.items ≡ front ++ None ∷ [] → IsOk r
   pub empty : old.items ≡ [] → IsOk r
 
@@ -187,7 +188,7 @@ pub record PopsSlot {V : Type 0} (bytes_of : V → List ℕ) (r : Result (Option
   pub capacity : new.capacity ≡ old.capacity
   pub byte_capacity : new.byte_capacity ≡ old.byte_capacity
   -- the only error is running out of memory; it never comes where the last item is null, or where there is none
-  pub only : IfErr r (λ e. e ≡ OutOfMemory)
+  pub only : OnlyOutOfMemory r
   pub succeeds : (front : List Bool) → old.valid ≡ front ++ false ∷ [] → IsOk r
   pub empty : old.values ≡ [] → IsOk r
 
@@ -219,5 +220,5 @@ abbrev pub HasItems : GrowingBinary → List (Option (List ℕ)) → Type 0
 HasItems a items = (a.items ≡ items) × (a.bytes ≡ bytes_of_items items)
 
 -- an iterator may give items whose bytes pass the greatest offset, or more items than a usize counts
-abbrev pub MayYieldPastOffset : {S : Type 0} → ℕ → (S → Option (Option (Bor (List ℕ))) → S → Type 0) → S → Type 0
-MayYieldPastOffset {S} greatest steps s = (xs : List (Option (Bor (List ℕ)))) × (t : S) × Yields steps s xs t × ((greatest < bytes_of_items (items_by_bytes xs)) ⊎ (2 ^ 64 ≤ length xs))
+abbrev pub MayYieldPastOffset : {S X : Type 0} → (X → Option (List ℕ)) → ℕ → (S → Option X → S → Type 0) → S → Type 0
+MayYieldPastOffset {S} {X} item greatest steps s = (xs : List X) × (t : S) × Yields steps s xs t × ((greatest < bytes_of_items (map item xs)) ⊎ (2 ^ 64 ≤ length xs))

@@ -1,4 +1,4 @@
-pub mod AllTexts
+pub mod Values
 pub mod ArrayTexts
 pub mod Binary
 pub mod Growth

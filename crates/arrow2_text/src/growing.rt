@@ -1,5 +1,5 @@
 //! Slots that grow: bytes between offsets, with their validity.
-ghost use Rattle.std.specs.Prelude.{◌≡◌, ◌+◌, ◌*◌, ◌<◌, ◌≤◌, ◌^◌, ◌↔◌, ◌⊎◌, [], ◌∷◌, ◌++◌, All, false, length, map, sum, count_by, is_some, option_map, slice_index_or, vec_capacity, IfErr, IfNone, IfOk, IfSome, IsErrOf, IsNone, IsOk, OnErr, OnOk};
+ghost use Rattle.std.specs.Prelude.{◌≡◌, ◌+◌, ◌*◌, ◌<◌, ◌≤◌, ◌^◌, ◌↔◌, [], ◌∷◌, ◌++◌, All, false, length, map, sum, count_by, is_some, option_map, slice_index_or, vec_capacity, IfNone, IfOk, IfSome, IsErrOf, IsNone, IsOk, OnErr, OnOk};
 ghost use Rattle.arrow2_model.specs.Buffers.{buffer_items};
 ghost use Rattle.std.specs.Option.{is_none, option_copied, option_map_or, unwrap_or};
 ghost use Rattle.arrow2_walks.specs.Zipped.{slot, zipped};
@@ -8,8 +8,10 @@ ghost use Rattle.arrow2_validity.specs.OptionalValidity.{valid_items};
 ghost use Rattle.arrow2_text.specs.Binary.{binary_items, binary_values, slot_offset, slots_size, IsCompact};
 ghost use Rattle.arrow2_offset.specs.NestedLists.{cut};
 ghost use Rattle.arrow2_text.specs.Growth.{AppendsCopies, AppendsSlots, AreGrowingSlots, GrownByCopies, GrownBySlots, HasCapacityFor, LosesLastSlot, PopsSlot, ReservesSlots, bytes_of_items, values_of_items};
+ghost use Rattle.arrow2_types.specs.Failures.{OnlyOutOfMemory, OnlyOverflowOrOutOfMemory};
 
 use crate::as_item::AsItem;
+use crate::byte_array_type::ByteArrayType;
 use crate::slots::Slots;
 use arrow2_bitmap::MutableBitmap;
 use arrow2_buffer::Buffer;
@@ -71,7 +73,7 @@ impl<O: Offset> Growing<O> {
         ensures capacity { IfOk result (λ g.
             (capacity ≤ g.capacity) × (byte_capacity ≤ g.byte_capacity)) }
         ensures overflow { IsErrOf result Error.Overflow ↔ (2 ^ 64 ≤ capacity + 1) }
-        ensures only { IfErr result (λ e. (e ≡ Error.Overflow) ⊎ (e ≡ Error.OutOfMemory)) }
+        ensures only { OnlyOverflowOrOutOfMemory result }
     {
         let offsets = Offsets::with_capacity(alloc, capacity)?;
         let validity = MutableBitmap::with_capacity(alloc, capacity)?;
@@ -97,7 +99,7 @@ impl<O: Offset> Growing<O> {
         ensures capacity { IfOk result (λ g.
             (capacity ≤ g.capacity) × (byte_capacity ≤ g.byte_capacity)) }
         ensures overflow { IsErrOf result Error.Overflow ↔ (2 ^ 64 ≤ capacity + 1) }
-        ensures only { IfErr result (λ e. (e ≡ Error.Overflow) ⊎ (e ≡ Error.OutOfMemory)) }
+        ensures only { OnlyOverflowOrOutOfMemory result }
     {
         if capacity == usize::MAX {
             return Err(Error::Overflow);
@@ -185,7 +187,7 @@ impl<O: Offset> Growing<O> {
         ensures ok_bytes { OnOk result (self.old.bytes + bytes ≤ self.new.byte_capacity) }
         // When it overflows, which errors can come, and when none does.
         ensures overflow { IsErrOf result Error.Overflow ↔ (2 ^ 64 ≤ length self.old.valid + slots) }
-        ensures only { IfErr result (λ e. (e ≡ Error.Overflow) ⊎ (e ≡ Error.OutOfMemory)) }
+        ensures only { OnlyOverflowOrOutOfMemory result }
         ensures succeeds { length self.old.valid + slots ≤ self.old.capacity →
             self.old.bytes + bytes ≤ self.old.byte_capacity → IsOk result }
         // Neither capacity falls.
@@ -277,29 +279,32 @@ impl<O: Offset> Growing<O> {
     }
 
     /// Appends these items, all of them or none. The items are counted before any is appended.
-    pub(crate) fn extend_from_items<S: AsItem>(&mut self, items: &[S]) -> Result<()>
+    pub(crate) fn extend_from_items<T: ByteArrayType, S: AsItem<T>>(
+        &mut self,
+        items: &[S],
+    ) -> Result<()>
         ensures grown { AppendsSlots O.MAX result self.old self.new (values_of_items (map S.item items.now))
             (map is_some (map S.item items.now)) (bytes_of_items (map S.item items.now)) }
-        ensures known { OnOk result (All (λ item. IfSome (S.item item) S.Known) items.now) }
+        ensures known { OnOk result (All (λ item. IfSome (S.item item) T.IsValue) items.now) }
     {
-        let Some(bytes) = total_bytes(items) else {
+        let Some(bytes) = total_bytes::<T, S>(items) else {
             // For the proof alone: these calls bring the facts that the validity has an item for each slot, and that
             // the last offset is at most `O::MAX`.
             let _ = (self.len(), self.bytes(), O::MAX);
             return Err(Error::Overflow);
         };
         self.reserve_below(items.len(), bytes)?;
-        self.extend_reserved(items);
+        self.extend_reserved::<T, S>(items);
         Ok(())
     }
 
     /// Appends these items. Requires spare capacity for them and for their bytes, that the last offset plus the number
     /// of their bytes is at most `O::MAX`, and that a `usize` can count the slots afterwards.
-    fn extend_reserved<S: AsItem>(&mut self, items: &[S])
+    fn extend_reserved<T: ByteArrayType, S: AsItem<T>>(&mut self, items: &[S])
         requires spare { HasCapacityFor O.MAX self.old (length items.now) (bytes_of_items (map S.item items.now)) }
         ensures grown { GrownBySlots self.old self.new (values_of_items (map S.item items.now))
             (map is_some (map S.item items.now)) (bytes_of_items (map S.item items.now)) }
-        ensures known { All (λ item. IfSome (S.item item) S.Known) items.now }
+        ensures known { All (λ item. IfSome (S.item item) T.IsValue) items.now }
     {
         for item in items {
             self.push_reserved(item.as_item());
@@ -385,7 +390,7 @@ impl<O: Offset> Growing<O> {
         requires below { index < length self.now.valid }
         ensures ok { IfOk result (λ item. option_map (λ value. value.items) item
             ≡ slot (slice_index_or self.now.values index []) (slice_index_or self.now.valid index false)) }
-        ensures only { IfErr result (λ e. e ≡ Error.OutOfMemory) }
+        ensures only { OnlyOutOfMemory result }
         ensures succeeds { slice_index_or self.now.valid index false ≡ false → IsOk result }
     {
         let (start, end) = self.offsets.start_end(index);
@@ -415,7 +420,7 @@ impl<O: Offset> Growing<O> {
         // Nothing is stored besides the slots, and the only error is `OutOfMemory`.
         ensures compact { IfOk result (λ s. IsCompact s) }
         ensures bytes { IfOk result (λ s. length (buffer_items s.values) ≡ self.bytes) }
-        ensures only { IfErr result (λ e. e ≡ Error.OutOfMemory) }
+        ensures only { OnlyOutOfMemory result }
     {
         let Growing {
             data_type,
@@ -431,7 +436,7 @@ impl<O: Offset> Growing<O> {
 }
 
 /// Returns the number of bytes of these items, or `None` if it is above `usize::MAX`.
-fn total_bytes<S: AsItem>(items: &[S]) -> Option<usize>
+fn total_bytes<T: ByteArrayType, S: AsItem<T>>(items: &[S]) -> Option<usize>
     ensures some { IfSome result (λ total. total ≡ bytes_of_items (map S.item items.now)) }
     ensures none { IfNone result (2 ^ 64 ≤ bytes_of_items (map S.item items.now)) }
 {
@@ -458,7 +463,7 @@ fn push_slot(
     ensures err_values { OnErr result (values.new.items ≡ values.old.items) }
     ensures err_valid { OnErr result (validity.new.items ≡ validity.old.items) }
     // The only error, when none comes, and that no capacity falls.
-    ensures only { IfErr result (λ e. e ≡ Error.OutOfMemory) }
+    ensures only { OnlyOutOfMemory result }
     ensures succeeds { length validity.old.items < validity.old.capacity →
         length values.old.items + length value.now ≤ vec_capacity values.old → IsOk result }
     ensures capacity { validity.old.capacity ≤ validity.new.capacity }
@@ -476,7 +481,7 @@ fn push_slot(
 /// Returns a copy of the bytes of a slot, or `None` where `valid` is false.
 fn copy_slot(alloc: Global, bytes: &[u8], valid: bool) -> Result<Option<Vec<u8>>>
     ensures ok { IfOk result (λ item. option_map (λ value. value.items) item ≡ slot bytes.now valid) }
-    ensures only { IfErr result (λ e. e ≡ Error.OutOfMemory) }
+    ensures only { OnlyOutOfMemory result }
     ensures succeeds { valid ≡ false → IsOk result }
 {
     if valid {

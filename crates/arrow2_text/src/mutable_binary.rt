@@ -1,128 +1,25 @@
 //! An array of byte strings that grows.
-ghost use Rattle.std.specs.Prelude.{◌≡◌, ◌+◌, ◌*◌, ◌<◌, ◌≤◌, ◌^◌, ◌↔◌, ◌⊎◌, [], ◌∷◌, None, Some, length, count_by, map, replicate, sum, IfErr, IfOk, IsErrOf, IsNone, IsOk, IsTrue, OnOk};
-ghost use Rattle.std.specs.Iterator.{IsFinite, IsFiniteIterable};
+ghost use Rattle.std.specs.Prelude.{◌≡◌, ◌*◌, ◌<◌, [], ◌∷◌, Some, length, map, replicate, sum, IfOk, IsErrOf};
+ghost use Rattle.std.specs.Iterator.{IsFiniteIterable};
 ghost use Rattle.std.specs.Iterator.Runs.{WholeRun};
-ghost use Rattle.std.specs.Option.{is_none, option_copied, option_map_or};
-ghost use Rattle.arrow2_model.specs.Parts.{part};
-ghost use Rattle.arrow2_datatypes.specs.Types.{physical};
-ghost use Rattle.arrow2_text.specs.Binary.{binary_items, binary_layout, default_binary, slots_size, IsCompact};
-ghost use Rattle.arrow2_text.specs.Growth.{AppendsBinary, HasItems, MayYieldPastOffset, PopsBinary, bytes_of_items, growing_binary, items_by_bytes};
-ghost use Rattle.arrow2_model.specs.Buffers.{buffer_items};
+ghost use Rattle.std.specs.Option.{option_copied, option_map_or};
+ghost use Rattle.arrow2_text.specs.Binary.{default_binary};
+ghost use Rattle.arrow2_text.specs.Growth.{AppendsBinary, HasItems, MayYieldPastOffset, PopsBinary, bytes_of_items, items_by_bytes};
+ghost use Rattle.arrow2_types.specs.Failures.{OnlyOverflowOrOutOfMemory};
 
-use crate::binary::BinaryArray;
-use crate::checks::binary_type;
-use crate::growing::Growing;
-use arrow2_datatypes::DataType;
+use crate::byte_array_type::BinaryType;
+use crate::mutable_generic_byte_array::MutableGenericByteArray;
 use arrow2_index::Offset;
 use arrow2_types::{Error, Result};
 use std::alloc::Global;
-use std::marker::Model;
-use std::rc::Rc;
 
-/// An array of byte strings that grows.
-///
-/// Contracts see its logical type, its items, the number of bytes of their slots, and its two capacities: the number of
-/// items and the number of bytes that fit before it allocates. Each call that appends has one clause, the record
-/// `AppendsBinary` of `specs/Growth.antt`. The record states the items after `Ok` and after an error, exactly when
-/// `Overflow` comes, that `OutOfMemory` is the only other error, and that the call succeeds within both capacities
-/// where the last offset does not pass `O::MAX`.
-///
-/// Differs from arrow2: there always is a validity bitmap while the array grows, and [`MutableBinaryArray::freeze`]
-/// drops it where no item is null. Before `freeze` the only call that reads an item is [`MutableBinaryArray::pop`]. No
-/// call overwrites an item.
-#[derive(Drop)]
-pub struct MutableBinaryArray<O: Offset> {
-    slots: Growing<O>,
-}
+/// An array of byte strings that grows. It has the calls of [`MutableGenericByteArray`]. The calls below append and
+/// remove byte strings.
+pub type MutableBinaryArray<O> = MutableGenericByteArray<BinaryType, O>;
 
-impl<O: Offset> Model for MutableBinaryArray<O> {
-    ghost use Rattle.std.specs.Prelude.{◌≡◌};
-    ghost use Rattle.arrow2_datatypes.specs.Types.{physical};
-    ghost use Rattle.arrow2_text.specs.Binary.{binary_layout};
-    ghost use Rattle.arrow2_text.specs.Growth.{GrowingBinary, growing_binary};
-    ghost use Rattle.std.specs.Coded.{codes};
-    ghost use Rattle.arrow2_datatypes.specs.contracts.DataType as logical_type;
-
-    ghost Value = { GrowingBinary };
-
-    // The encoding by which proofs tell two values apart: derived from those of std's types and from that of
-    // `DataType`.
-    ghost coded = { Prim.hlevel (codes, logical_type.the_row.coded) };
-
-    ghost view = { λ a. growing_binary a.slots };
-
-    ghost invariant = { λ a. physical a.slots.data_type ≡ binary_layout O.IS_LARGE };
-}
-
-#[tactic(auto, using(crate::proofs::SlotLists::growing))]
-impl<O: Offset> MutableBinaryArray<O> {
-    /// Returns an array without items, of the default logical type of byte strings: `Binary`, or `LargeBinary` where
-    /// `O` has 64 bits.
-    ///
-    /// # Errors
-    ///
-    /// Only `OutOfMemory`.
-    pub fn new(alloc: Global) -> Result<MutableBinaryArray<O>>
-        ensures data_type { IfOk result (λ a. a.data_type ≡ default_binary O.IS_LARGE) }
-        ensures items { IfOk result (λ a. (a.items ≡ []) × (a.bytes ≡ 0)) }
-        ensures only { IfErr result (λ e. e ≡ Error.OutOfMemory) }
-    {
-        MutableBinaryArray::with_capacity(alloc, 0, 0)
-    }
-
-    /// Returns an array without items, of this logical type, with capacity for at least `capacity` items and
-    /// `byte_capacity` bytes. Requires that the physical type of `data_type` is `Binary`, or `LargeBinary` where `O`
-    /// has 64 bits.
-    ///
-    /// # Errors
-    ///
-    /// `Overflow` exactly where `capacity` is `usize::MAX`, since there is one offset more than there are items; else
-    /// only `OutOfMemory`.
-    pub fn with_capacity_from(
-        alloc: Global,
-        data_type: Rc<DataType>,
-        capacity: usize,
-        byte_capacity: usize,
-    ) -> Result<MutableBinaryArray<O>>
-        requires { physical data_type.value ≡ binary_layout O.IS_LARGE }
-        ensures data_type { IfOk result (λ a. a.data_type ≡ data_type.value) }
-        ensures items { IfOk result (λ a. (a.items ≡ []) × (a.bytes ≡ 0)) }
-        ensures capacity { IfOk result (λ a.
-            (capacity ≤ a.capacity) × (byte_capacity ≤ a.byte_capacity)) }
-        ensures overflow { IsErrOf result Error.Overflow ↔ (2 ^ 64 ≤ capacity + 1) }
-        ensures only { IfErr result (λ e. (e ≡ Error.Overflow) ⊎ (e ≡ Error.OutOfMemory)) }
-    {
-        let slots = Growing::with_capacity(data_type, alloc, capacity, byte_capacity)?;
-        Ok(MutableBinaryArray { slots })
-    }
-
-    /// Returns an array without items, of the default logical type of byte strings, with capacity for at least
-    /// `capacity` items and `byte_capacity` bytes.
-    ///
-    /// In arrow2 this call is `with_capacities`.
-    ///
-    /// # Errors
-    ///
-    /// `Overflow` exactly where `capacity` is `usize::MAX`, since there is one offset more than there are items; else
-    /// only `OutOfMemory`.
-    pub fn with_capacity(
-        alloc: Global,
-        capacity: usize,
-        byte_capacity: usize,
-    ) -> Result<MutableBinaryArray<O>>
-        ensures data_type { IfOk result (λ a. a.data_type ≡ default_binary O.IS_LARGE) }
-        ensures items { IfOk result (λ a. (a.items ≡ []) × (a.bytes ≡ 0)) }
-        ensures capacity { IfOk result (λ a.
-            (capacity ≤ a.capacity) × (byte_capacity ≤ a.byte_capacity)) }
-        ensures overflow { IsErrOf result Error.Overflow ↔ (2 ^ 64 ≤ capacity + 1) }
-        ensures only { IfErr result (λ e. (e ≡ Error.Overflow) ⊎ (e ≡ Error.OutOfMemory)) }
-    {
-        let slots = Growing::of_default(binary_type::<O>(), alloc, capacity, byte_capacity)?;
-        Ok(MutableBinaryArray { slots })
-    }
-
+impl<O: Offset> MutableGenericByteArray<BinaryType, O> {
     /// Removes the last item and returns a copy of it: `Some(None)` for a null, and `None` where there is no item.
-    /// Allocates nothing for a null.
+    /// The capacities stay. Allocates nothing for a null.
     ///
     /// Differs from arrow2, which returns `None` in both cases.
     ///
@@ -133,7 +30,7 @@ impl<O: Offset> MutableBinaryArray<O> {
     pub fn pop(&mut self) -> Result<Option<Option<Vec<u8>>>>
         ensures { PopsBinary (λ value. value.items) result self.old self.new }
     {
-        self.slots.pop()
+        self.pop_bytes()
     }
 
     /// Returns an array of the items of an iterator, in their order, of the default logical type of byte strings.
@@ -155,109 +52,11 @@ impl<O: Offset> MutableBinaryArray<O> {
         ensures data_type { IfOk result (λ a. a.data_type ≡ default_binary O.IS_LARGE) }
         // `Overflow` comes only where a run may have too many items or bytes.
         ensures overflow { IsErrOf result Error.Overflow →
-            (it : I.IntoIter) × I.into_iter_gives iter it × MayYieldPastOffset O.MAX I.IntoIter.next_gives it }
-        ensures only { IfErr result (λ e. (e ≡ Error.Overflow) ⊎ (e ≡ Error.OutOfMemory)) }
+            (it : I.IntoIter) × I.into_iter_gives iter it
+            × MayYieldPastOffset option_copied O.MAX I.IntoIter.next_gives it }
+        ensures only { OnlyOverflowOrOutOfMemory result }
     {
-        MutableBinaryArray::collect_items(alloc, iter.into_iter())
-    }
-
-    /// Returns the array of the items of an iterator that ends.
-    fn collect_items<'a, I: Iterator<Item = Option<&'a [u8]>> + Drop>(
-        alloc: Global,
-        items: I,
-    ) -> Result<MutableBinaryArray<O>>
-        requires can { I.can_next items }
-        requires ends { IsFinite (I.remaining items) }
-        ensures items { IfOk result (λ a.
-            WholeRun I.next_gives items (λ p. HasItems a (items_by_bytes p.items))) }
-        ensures data_type { IfOk result (λ a. a.data_type ≡ default_binary O.IS_LARGE) }
-        ensures overflow { IsErrOf result Error.Overflow → MayYieldPastOffset O.MAX I.next_gives items }
-        ensures only { IfErr result (λ e. (e ≡ Error.Overflow) ⊎ (e ≡ Error.OutOfMemory)) }
-    {
-        let mut array = MutableBinaryArray::new(alloc)?;
-        for item in items {
-            array.push(item)?;
-        }
-        Ok(array)
-    }
-
-    /// Returns the array of these slots, over their storage. Requires that the physical type is that of byte strings
-    /// with offsets of type `O`.
-    pub(crate) fn of_slots(slots: Growing<O>) -> MutableBinaryArray<O>
-        requires { physical slots.data_type ≡ binary_layout O.IS_LARGE }
-        ensures { result ≡ growing_binary slots }
-    {
-        MutableBinaryArray { slots }
-    }
-
-    /// Returns the logical type.
-    pub fn data_type(&self) -> &Rc<DataType>
-        ensures value { result.now.value ≡ self.now.data_type }
-        ensures layout { physical self.now.data_type ≡ binary_layout O.IS_LARGE }
-    {
-        self.slots.data_type()
-    }
-
-    /// Returns the number of items, nulls too.
-    pub fn len(&self) -> usize
-        ensures { result ≡ length self.now.items }
-    {
-        self.slots.len()
-    }
-
-    /// Returns whether it has no item.
-    pub fn is_empty(&self) -> bool
-        ensures { IsTrue result ↔ (length self.now.items ≡ 0) }
-    {
-        self.len() == 0
-    }
-
-    /// Returns the number of items that fit before it allocates, if their bytes fit too, including the items that it
-    /// holds. arrow2 returns the capacity of the offsets alone.
-    pub fn capacity(&self) -> usize
-        ensures value { result ≡ self.now.capacity }
-        ensures within_capacity { length self.now.items ≤ result }
-    {
-        // For the proof alone: reading the length brings the fact that there are as many slots as items.
-        let _ = self.slots.len();
-        self.slots.capacity()
-    }
-
-    /// Returns the number of bytes that fit before it allocates, including the bytes that it holds. arrow2 has no such
-    /// call.
-    pub fn byte_capacity(&self) -> usize
-        ensures value { result ≡ self.now.byte_capacity }
-        ensures within_capacity { self.now.bytes ≤ result }
-    {
-        self.slots.byte_capacity()
-    }
-
-    /// Reserves capacity for `additional` more items and `bytes` more bytes. Within both capacities it does not
-    /// allocate.
-    ///
-    /// # Errors
-    ///
-    /// `Overflow` exactly where the sum of the length and `additional` passes `usize::MAX`, else only `OutOfMemory`.
-    /// After either error, the array holds the items that it held.
-    pub fn reserve(&mut self, additional: usize, bytes: usize) -> Result<()>
-        // The items, the number of bytes and the logical type are as before.
-        ensures items { self.new.items ≡ self.old.items }
-        ensures bytes { self.new.bytes ≡ self.old.bytes }
-        ensures data_type { self.new.data_type ≡ self.old.data_type }
-        // After `Ok`, `additional` more items and `bytes` more bytes fit.
-        ensures ok { OnOk result (length self.old.items + additional ≤ self.new.capacity) }
-        ensures ok_bytes { OnOk result (self.old.bytes + bytes ≤ self.new.byte_capacity) }
-        // When it overflows, which errors can come, and when none does.
-        ensures overflow { IsErrOf result Error.Overflow ↔
-            (2 ^ 64 ≤ length self.old.items + additional) }
-        ensures only { IfErr result (λ e. (e ≡ Error.Overflow) ⊎ (e ≡ Error.OutOfMemory)) }
-        ensures succeeds { length self.old.items + additional ≤ self.old.capacity →
-            self.old.bytes + bytes ≤ self.old.byte_capacity → IsOk result }
-        // Neither capacity falls.
-        ensures capacity { self.old.capacity ≤ self.new.capacity }
-        ensures byte_capacity { self.old.byte_capacity ≤ self.new.byte_capacity }
-    {
-        self.slots.reserve(additional, bytes)
+        MutableGenericByteArray::collect_items(alloc, iter.into_iter())
     }
 
     /// Appends an item. Within both capacities it does not allocate.
@@ -270,20 +69,7 @@ impl<O: Offset> MutableBinaryArray<O> {
         ensures { AppendsBinary O.MAX result self.old self.new (option_copied item.entry ∷ [])
             (option_map_or length (option_copied item.entry) 0) }
     {
-        let valid = item.is_some();
-        self.slots.push(item.unwrap_or(&[]), valid)
-    }
-
-    /// Appends a null, as [`MutableBinaryArray::push`] of `None` does. Within both capacities it does not allocate.
-    ///
-    /// # Errors
-    ///
-    /// `Overflow` exactly where the length is `usize::MAX`, else only `OutOfMemory`. After either error, the array
-    /// holds the items that it held.
-    pub fn push_null(&mut self) -> Result<()>
-        ensures { AppendsBinary O.MAX result self.old self.new (None ∷ []) 0 }
-    {
-        self.slots.push(&[], false)
+        self.push_bytes(item)
     }
 
     /// Appends each of these byte strings as an item that is not null. Within both capacities it does not allocate,
@@ -299,7 +85,7 @@ impl<O: Offset> MutableBinaryArray<O> {
         ensures { AppendsBinary O.MAX result self.old self.new (map (λ value. Some value.now) values.now)
             (sum (map (λ value. length value.now) values.now)) }
     {
-        self.slots.extend_from_items(values)
+        self.extend_from_items(values)
     }
 
     /// Appends items. Within both capacities it does not allocate, else it allocates before it copies any of them.
@@ -314,7 +100,7 @@ impl<O: Offset> MutableBinaryArray<O> {
         ensures { AppendsBinary O.MAX result self.old self.new (items_by_bytes items.now)
             (bytes_of_items (items_by_bytes items.now)) }
     {
-        self.slots.extend_from_items(items)
+        self.extend_from_items(items)
     }
 
     /// Appends `item` `additional` times. Within both capacities it does not allocate, else it allocates before it
@@ -328,72 +114,6 @@ impl<O: Offset> MutableBinaryArray<O> {
         ensures { AppendsBinary O.MAX result self.old self.new (replicate additional (option_copied item.entry))
             (additional * option_map_or length (option_copied item.entry) 0) }
     {
-        self.slots.extend_constant(additional, item)
-    }
-
-    /// Appends the `len` items of `array` from item `start` on. Ignores the logical type of `array`. Copies the bytes
-    /// under nulls too, and these count for `Overflow` and for the capacity; no clause states which bytes they are.
-    /// Requires that `start + len` is at most the length of `array`. Within both capacities it does not allocate, else
-    /// it allocates before it copies any of them.
-    ///
-    /// In arrow2 this call is in `growable`.
-    ///
-    /// # Errors
-    ///
-    /// `Overflow` exactly where the last offset would pass `O::MAX`, or the new length would pass `usize::MAX`; else
-    /// only `OutOfMemory`. After either error, the array holds the items that it held.
-    pub fn extend_from_array(
-        &mut self,
-        array: &BinaryArray<O>,
-        start: usize,
-        len: usize,
-    ) -> Result<()>
-        requires inside { start + len ≤ length (binary_items array.now) }
-        ensures { AppendsBinary O.MAX result self.old self.new (part (binary_items array.now) start len)
-            (slots_size array.now.offsets start len) }
-    {
-        let slots = array.slots();
-        // For the proof alone: reading the length brings the invariant that the validity has an item for each slot.
-        let _ = slots.len();
-        self.slots.extend(slots, start, len)
-    }
-
-    /// Frees unused capacity if the allocator can, which no clause states. An array without items then has a capacity
-    /// of 0 items, and one without bytes has a capacity of 0 bytes. Always returns `Ok`. arrow2 returns no `Result`.
-    pub fn shrink_to_fit(&mut self) -> Result<()>
-        ensures ok { IsOk result }
-        // The items, the number of bytes and the logical type are as before.
-        ensures items { self.new.items ≡ self.old.items }
-        ensures bytes { self.new.bytes ≡ self.old.bytes }
-        ensures data_type { self.new.data_type ≡ self.old.data_type }
-        // Neither capacity rises.
-        ensures capacity { self.new.capacity ≤ self.old.capacity }
-        ensures byte_capacity { self.new.byte_capacity ≤ self.old.byte_capacity }
-        ensures frees { self.old.items ≡ [] → self.new.capacity ≡ 0 }
-        ensures frees_bytes { self.old.bytes ≡ 0 → self.new.byte_capacity ≡ 0 }
-    {
-        self.slots.shrink_to_fit()
-    }
-
-    /// Returns the array of the items. The array has a validity bitmap exactly if an item is null. It stores its slots
-    /// alone: its offsets go from 0 to the number of bytes. The bytes are moved and not copied, which no clause states.
-    ///
-    /// Stands for arrow2's `From<MutableBinaryArray>`.
-    ///
-    /// # Errors
-    ///
-    /// Only `OutOfMemory`. The items are then dropped.
-    pub fn freeze(self) -> Result<BinaryArray<O>>
-        ensures items { IfOk result (λ a. binary_items a ≡ self.items) }
-        ensures data_type { IfOk result (λ a. a.data_type ≡ self.data_type) }
-        ensures bitmap { IfOk result (λ a.
-            IsNone a.validity.bitmap ↔ (count_by is_none self.items ≡ 0)) }
-        // Nothing is stored besides the slots.
-        ensures compact { IfOk result (λ a. IsCompact a) }
-        ensures bytes { IfOk result (λ a. length (buffer_items a.values) ≡ self.bytes) }
-        ensures only { IfErr result (λ e. e ≡ Error.OutOfMemory) }
-    {
-        let slots = self.slots.freeze()?;
-        Ok(BinaryArray::of_slots(slots))
+        self.extend_from_copies(additional, item)
     }
 }

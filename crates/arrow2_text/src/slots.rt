@@ -1,7 +1,7 @@
 //! Bytes between offsets with their validity: what arrays of byte strings and of texts store.
-ghost use Rattle.std.specs.Prelude.{◌≡◌, ◌+◌, ◌<◌, ◌≤◌, [], None, Some, IfErr, IfOk, IfSome, IsTrue, length, map, count_by, pos, slice_index_or, sum, ⊤, IsOk};
+ghost use Rattle.std.specs.Prelude.{◌≡◌, ◌+◌, ◌<◌, ◌≤◌, [], None, Some, IfOk, IfSome, IsTrue, length, map, count_by, pos, slice_index_or, sum, ⊤, IsOk};
 ghost use Rattle.std.specs.Bool.{Decides};
-ghost use Rattle.std.specs.Option.{is_none, is_some, option_copied};
+ghost use Rattle.std.specs.Option.{is_none, is_some};
 ghost use Rattle.either.specs.Either.{MatchEither};
 ghost use Rattle.arrow2_model.specs.Buffers.{buffer_items, whole_buffer};
 ghost use Rattle.arrow2_model.specs.Parts.{part};
@@ -12,6 +12,7 @@ ghost use Rattle.arrow2_walks.specs.Zipped.{zipped};
 ghost use Rattle.arrow2_validity.specs.OptionalValidity.{valid_items};
 ghost use Rattle.arrow2_text.specs.Binary.{binary_items, binary_parts, binary_values, sliced_binary, slot_offset, slots_between, slots_size, IsUnsliced, IsWhole};
 ghost use Rattle.arrow2_text.specs.Growth.{AreThawed};
+ghost use Rattle.arrow2_types.specs.Failures.{OnlyOutOfMemory};
 
 use crate::growing::Growing;
 use arrow2_bitmap::Bitmap;
@@ -19,7 +20,7 @@ use arrow2_buffer::Buffer;
 use arrow2_datatypes::DataType;
 use arrow2_index::Offset;
 use arrow2_offset::{Offsets, OffsetsBuffer};
-use arrow2_types::{Error, Result};
+use arrow2_types::Result;
 use arrow2_validity::Validity;
 use arrow2_walks::{SlicesIterator, laws};
 use either::Either;
@@ -109,6 +110,7 @@ impl<O: Offset> Slots<O> {
     /// Returns the validity.
     pub(crate) fn validity(&self) -> &Validity
         ensures value { result.now ≡ self.now.validity }
+        ensures slots { length (valid_items result.now) ≡ slots_between self.now.offsets }
         ensures known { valid_items result.now ≡ map is_some (binary_items self.now) }
         ensures zipped { zipped (binary_values self.now) (valid_items result.now) ≡ binary_items self.now }
     {
@@ -198,16 +200,6 @@ impl<O: Offset> Slots<O> {
         self.validity.slice(start, len);
     }
 
-    /// Returns the bytes of slot `index`, or `None` where it is null. Requires that `index` is below the number of
-    /// slots.
-    pub(crate) fn get(&self, index: usize) -> Option<&[u8]>
-        requires below { index < length (binary_items self.now) }
-        ensures { option_copied result ≡ slice_index_or (binary_items self.now) index None }
-    {
-        let value = self.value(index);
-        self.is_valid(index).then_some(value)
-    }
-
     /// Returns whether both have the same items, whatever bytes are stored under nulls.
     pub(crate) fn same_items(&self, other: &Slots<O>) -> bool
         ensures { Decides result (binary_items self.now ≡ binary_items other.now) }
@@ -285,7 +277,7 @@ impl<O: Offset> Slots<O> {
         ensures whole { IfOk result (λ r. MatchEither r (λ _. ⊤) (λ _. IsWhole self × IsUnsliced self)) }
         ensures succeeds { ¬ IsWhole self → IsOk result }
         ensures sliced { ¬ (self.offsets ≡ whole_buffer self.offsets.storage) → IsOk result }
-        ensures only { IfErr result (λ e. e ≡ Error.OutOfMemory) }
+        ensures only { OnlyOutOfMemory result }
     {
         let (first, last) = (self.offsets.first(), self.offsets.last());
         if first.to_usize() != 0 || last.to_usize() != self.values.len() {
@@ -339,7 +331,7 @@ fn thaw<O: Offset>(
     ensures unsliced { IfOk result (λ r. MatchEither r (λ _. ⊤) (λ _. values ≡ whole_buffer values.storage)) }
     ensures begins { IfSome validity.bitmap (λ b.
         IfOk result (λ r. MatchEither r (λ _. ⊤) (λ _. b.offset ≡ 0))) }
-    ensures only { IfErr result (λ e. e ≡ Error.OutOfMemory) }
+    ensures only { OnlyOutOfMemory result }
 {
     let alloc = values.allocator();
     // For the proof alone: reading the length brings the invariant that the bytes are inside the storage.

@@ -1,10 +1,11 @@
 //! Columns of numbers: built, filled, selected, taken, joined, and two that grow as one.
-ghost use Rattle.std.specs.Prelude.{◌≡◌, ◌<◌, ◌++◌, ◌⊎◌, [], ◌∷◌, All, None, Some, pos, length, map, slice_index_or, option_map, unwrap_or, IfOk, IfErr, OnOk, OnErr};
+ghost use Rattle.std.specs.Prelude.{◌≡◌, ◌<◌, ◌++◌, [], ◌∷◌, All, None, Some, pos, length, map, slice_index_or, option_map, unwrap_or, IfOk, OnOk, OnErr};
 ghost use Rattle.std.specs.List.{flat_map};
 ghost use Rattle.std.specs.Option.{option_copied};
 ghost use Rattle.std.specs.Ordering.{partial_gt};
 ghost use Rattle.arrow2.specs.Aggregates.{sum_of_non_null};
 ghost use Rattle.arrow2.specs.Binary.{binary_items};
+ghost use Rattle.arrow2.specs.Failures.{OnlyOutOfMemory, OnlyOverflowOrOutOfMemory};
 ghost use Rattle.arrow2.specs.Masks.{is_true};
 ghost use Rattle.arrow2.specs.Primitive.{primitive_items};
 ghost use Rattle.arrow2.specs.Selections.{selection};
@@ -16,7 +17,7 @@ use arrow2::compute::aggregate::sum;
 use arrow2::compute::comparison::gt_scalar;
 use arrow2::compute::filter::{filter, filter_by_array};
 use arrow2::compute::take::take;
-use arrow2::error::{Error, Result};
+use arrow2::error::Result;
 use arrow2::types::NativeType;
 use std::alloc::Global;
 
@@ -28,7 +29,7 @@ use std::alloc::Global;
 pub fn prices(alloc: Global) -> Result<PrimitiveArray<i64>>
     ensures ok { IfOk result (λ a.
         primitive_items a ≡ Some (pos 30) ∷ None ∷ Some (pos 50) ∷ []) }
-    ensures only { IfErr result (λ e. (e ≡ Error.Overflow) ⊎ (e ≡ Error.OutOfMemory)) }
+    ensures only { OnlyOverflowOrOutOfMemory result }
 {
     let mut prices = MutablePrimitiveArray::<i64>::new(alloc)?;
     prices.push(Some(30))?;
@@ -45,7 +46,7 @@ pub fn prices(alloc: Global) -> Result<PrimitiveArray<i64>>
 pub fn fill_null<T: NativeType>(column: &PrimitiveArray<T>, value: T) -> Result<PrimitiveArray<T>>
     ensures ok { IfOk result (λ c. primitive_items c
         ≡ map (λ item. Some (unwrap_or item value)) (primitive_items column.now)) }
-    ensures only { IfErr result (λ e. (e ≡ Error.Overflow) ⊎ (e ≡ Error.OutOfMemory)) }
+    ensures only { OnlyOverflowOrOutOfMemory result }
 {
     let mut filled = MutablePrimitiveArray::like(column)?;
     filled.reserve(column.len())?;
@@ -64,7 +65,7 @@ pub fn selected_sum(column: &PrimitiveArray<i64>, mask: &Bitmap) -> Result<i128>
     requires same_length { length (items_of mask.now) ≡ length (primitive_items column.now) }
     ensures ok { IfOk result (λ total.
         total ≡ sum_of_non_null (λ x. x) (selection (primitive_items column.now) (items_of mask.now))) }
-    ensures only { IfErr result (λ e. e ≡ Error.OutOfMemory) }
+    ensures only { OnlyOutOfMemory result }
 {
     let selection = filter(column, mask)?;
     Ok(sum(&selection))
@@ -82,7 +83,7 @@ pub fn above<T: NativeType + PartialOrd>(
     ensures ok { IfOk result (λ c. primitive_items c ≡ selection (primitive_items column.now)
         (map is_true (map (option_map (λ value. partial_gt T.PartialOrd.partial_cmp value bound))
         (primitive_items column.now)))) }
-    ensures only { IfErr result (λ e. e ≡ Error.OutOfMemory) }
+    ensures only { OnlyOutOfMemory result }
 {
     let is_above = gt_scalar(column, bound)?;
     filter_by_array(column, &is_above)
@@ -97,7 +98,7 @@ pub fn sum_at(column: &PrimitiveArray<i64>, indices: &[usize]) -> Result<i128>
     requires inside { All (λ index. index < length (primitive_items column.now)) indices.now }
     ensures ok { IfOk result (λ total. total ≡ sum_of_non_null (λ x. x)
         (map (λ index. slice_index_or (primitive_items column.now) index None) indices.now)) }
-    ensures only { IfErr result (λ e. e ≡ Error.OutOfMemory) }
+    ensures only { OnlyOutOfMemory result }
 {
     let taken = take(column, indices)?;
     Ok(sum(&taken))
@@ -114,7 +115,7 @@ pub fn concat<T: NativeType>(
 ) -> Result<PrimitiveArray<T>>
     ensures ok { IfOk result (λ c. primitive_items c
         ≡ flat_map (λ column. primitive_items column) columns.now) }
-    ensures only { IfErr result (λ e. (e ≡ Error.Overflow) ⊎ (e ≡ Error.OutOfMemory)) }
+    ensures only { OnlyOverflowOrOutOfMemory result }
 {
     let mut joined = MutablePrimitiveArray::new(alloc)?;
     for column in columns {
@@ -137,7 +138,7 @@ pub fn push_row(
     ensures names { OnOk result (names.new.items ≡ names.old.items ++ option_copied name.entry ∷ []) }
     ensures prices { OnOk result (prices.new.items ≡ prices.old.items ++ price ∷ []) }
     ensures err { OnErr result ((names.new.items ≡ names.old.items) × (prices.new.items ≡ prices.old.items)) }
-    ensures only { IfErr result (λ e. (e ≡ Error.Overflow) ⊎ (e ≡ Error.OutOfMemory)) }
+    ensures only { OnlyOverflowOrOutOfMemory result }
 {
     prices.reserve(1)?;
     names.push(name)?;
@@ -159,7 +160,7 @@ pub fn append_rows(
     ensures names { OnOk result (names.new.items ≡ names.old.items ++ binary_items more_names.now) }
     ensures prices { OnOk result (prices.new.items ≡ prices.old.items ++ primitive_items more_prices.now) }
     ensures err { OnErr result ((names.new.items ≡ names.old.items) × (prices.new.items ≡ prices.old.items)) }
-    ensures only { IfErr result (λ e. (e ≡ Error.Overflow) ⊎ (e ≡ Error.OutOfMemory)) }
+    ensures only { OnlyOverflowOrOutOfMemory result }
 {
     prices.reserve(more_prices.len())?;
     names.extend_from_array(more_names, 0, more_names.len())?;

@@ -1,12 +1,13 @@
 //! Bitmaps of the results of comparisons.
-ghost use Rattle.std.specs.Prelude.{◌≡◌, int_lt, length, map, IfOk, IfErr};
+ghost use Rattle.std.specs.Prelude.{◌≡◌, int_lt, length, map, IfOk};
 ghost use Rattle.std.specs.Simd.Lanes.{zip2};
 ghost use Rattle.arrow2.specs.Buffers.{buffer_items};
+ghost use Rattle.arrow2.specs.Failures.{OnlyOutOfMemory};
 ghost use Rattle.arrow2.specs.Storage.{items_of};
 
 use arrow2::bitmap::Bitmap;
 use arrow2::buffer::Buffer;
-use arrow2::error::{Error, Result};
+use arrow2::error::Result;
 
 /// Returns, for each value, whether it is below a bound.
 ///
@@ -16,7 +17,7 @@ use arrow2::error::{Error, Result};
 pub fn below(values: &Buffer<i64>, bound: i64) -> Result<Bitmap>
     ensures items { IfOk result (λ b. items_of b
         ≡ map (λ value. int_lt value bound) (buffer_items values.now)) }
-    ensures only { IfErr result (λ e. e ≡ Error.OutOfMemory) }
+    ensures only { OnlyOutOfMemory result }
 {
     Bitmap::from_slice_with(
         values.allocator(),
@@ -34,7 +35,7 @@ pub fn below_each(values: &Buffer<i64>, bounds: &Buffer<i64>) -> Result<Bitmap>
     requires same_length { length (buffer_items values.now) ≡ length (buffer_items bounds.now) }
     ensures items { IfOk result (λ b. items_of b
         ≡ zip2 int_lt (buffer_items values.now) (buffer_items bounds.now)) }
-    ensures only { IfErr result (λ e. e ≡ Error.OutOfMemory) }
+    ensures only { OnlyOutOfMemory result }
 {
     let (values, bounds, alloc) = (values.as_slice(), bounds.as_slice(), values.allocator());
     Bitmap::from_slices_with(alloc, values, bounds, |value, bound| *value < *bound)

@@ -1,10 +1,10 @@
 //! A column type of a caller's own, made of two of arrow2's arrays: texts that repeat, each stored once.
-ghost use Rattle.std.specs.Prelude.{◌≡◌, ◌↔◌, ◌+◌, ◌<◌, ◌≤◌, ◌⊎◌, [], All, None, codes, pos, length, map, option_map, refl, slice_index_or, unwrap_or, IfOk, IfErr, IsOk, IsTrue};
+ghost use Rattle.std.specs.Prelude.{◌≡◌, ◌↔◌, ◌+◌, ◌<◌, ◌≤◌, [], All, None, codes, pos, length, map, option_map, refl, slice_index_or, unwrap_or, IfOk, IsOk, IsTrue};
 ghost use Rattle.std.specs.Option.{option_copied};
 ghost use Rattle.arrow2.specs.Binary.{binary_items};
 ghost use Rattle.arrow2.specs.Parts.{part};
 ghost use Rattle.arrow2.specs.Primitive.{primitive_items};
-ghost use Rattle.arrow2.specs.Failures.{FailsOnlyWith, IsInvalidArgumentOrOutOfMemory};
+ghost use Rattle.arrow2.specs.Failures.{FailsOnlyWith, IsInvalidArgumentOrOutOfMemory, OnlyOutOfMemory, OnlyOverflowOrOutOfMemory};
 ghost use Rattle.arrow2.specs.Selections.{selection};
 ghost use Rattle.arrow2.specs.Storage.{items_of};
 ghost use Rattle.arrow2.specs.Take.{IsInBoundsOrNull, item_at};
@@ -110,7 +110,7 @@ impl Dictionary {
     pub fn filter(&self, mask: &Bitmap) -> Result<Dictionary>
         requires same_length { length (items_of mask.now) ≡ length self.now }
         ensures ok { IfOk result (λ d. d ≡ selection self.now (items_of mask.now)) }
-        ensures only { IfErr result (λ e. e ≡ Error.OutOfMemory) }
+        ensures only { OnlyOutOfMemory result }
     {
         let keys = filter(&self.keys, mask)?;
         let texts = self.texts.clone()?;
@@ -124,7 +124,7 @@ impl Dictionary {
     /// `Overflow` or `OutOfMemory`.
     pub fn decode(&self) -> Result<Utf8Array<i32>>
         ensures ok { IfOk result (λ t. binary_items t ≡ self.now) }
-        ensures only { IfErr result (λ e. (e ≡ Error.Overflow) ⊎ (e ≡ Error.OutOfMemory)) }
+        ensures only { OnlyOverflowOrOutOfMemory result }
     {
         let mut decoded = MutableUtf8Array::new(self.texts.values().allocator())?;
         for index in 0..self.len() {

@@ -1,8 +1,9 @@
 //! Functions over any type of value and of index.
-ghost use Rattle.std.specs.Prelude.{◌≡◌, ◌↔◌, ◌≤ℤ◌, ◌<ℤ◌, pos, All, IfOk, IfErr, IsTrue};
+ghost use Rattle.std.specs.Prelude.{◌≡◌, ◌↔◌, ◌≤ℤ◌, ◌<ℤ◌, pos, All, IfOk, IsTrue};
 ghost use Rattle.std.specs.List.{flat_map};
+ghost use Rattle.arrow2.specs.Failures.{OnlyOutOfMemory};
 
-use arrow2::error::{Error, Result};
+use arrow2::error::Result;
 use arrow2::types::{Index, NativeType};
 use std::alloc::Global;
 use std::convert::AsSlice;
@@ -14,7 +15,7 @@ use std::convert::AsSlice;
 /// Only `OutOfMemory`.
 pub fn low_first<T: NativeType>(alloc: Global, values: &[T]) -> Result<Vec<u8>>
     ensures bytes { IfOk result (λ v. v.items ≡ flat_map T.le_digits values.now) }
-    ensures only { IfErr result (λ e. e ≡ Error.OutOfMemory) }
+    ensures only { OnlyOutOfMemory result }
 {
     let mut bytes = Vec::new(alloc);
     for value in values {

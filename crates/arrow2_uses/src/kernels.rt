@@ -1,11 +1,12 @@
 //! Bitmaps combined.
-ghost use Rattle.std.specs.Prelude.{◌≡◌, ◌+◌, ◌%◌, ◌^◌, [], ◌∷◌, length, IfOk, IfErr};
+ghost use Rattle.std.specs.Prelude.{◌≡◌, ◌+◌, ◌%◌, ◌^◌, [], ◌∷◌, length, IfOk};
+ghost use Rattle.arrow2.specs.Failures.{OnlyOutOfMemory};
 ghost use Rattle.arrow2.specs.Kernels.{unary_kernel};
 ghost use Rattle.arrow2.specs.Storage.{items_of};
 ghost use Rattle.arrow2.specs.Tables.{each};
 
 use arrow2::bitmap::{Bitmap, MutableBitmap, binary_assign_table, binary_table, unary};
-use arrow2::error::{Error, Result};
+use arrow2::error::Result;
 
 /// Returns a bitmap that is true where `bitmap` is true and `other` is false. Bit 1 of the truth table is the output
 /// for these inputs. Only this bit is set, so the table is the number 0b10 = 2. Requires that both have equal lengths.
@@ -17,7 +18,7 @@ pub fn without(bitmap: &Bitmap, other: &Bitmap) -> Result<Bitmap>
     requires same_length { length (items_of bitmap.now) ≡ length (items_of other.now) }
     ensures items { IfOk result (λ b. items_of b
         ≡ each 2 (items_of bitmap.now ∷ items_of other.now ∷ [])) }
-    ensures only { IfErr result (λ e. e ≡ Error.OutOfMemory) }
+    ensures only { OnlyOutOfMemory result }
 {
     binary_table(bitmap, other, 2)
 }
@@ -40,7 +41,7 @@ pub fn remove(bitmap: &mut MutableBitmap, other: &Bitmap)
 pub fn next_words(bitmap: &Bitmap) -> Result<Bitmap>
     ensures items { IfOk result (λ b. items_of b
         ≡ unary_kernel 64 (λ x. (x + 1) % 2 ^ 64) (items_of bitmap.now)) }
-    ensures only { IfErr result (λ e. e ≡ Error.OutOfMemory) }
+    ensures only { OnlyOutOfMemory result }
 {
     unary(bitmap, |x| x.wrapping_add(1))
 }

@@ -1,13 +1,14 @@
 //! Loops over a bitmap, by its items and by its words, over the words of bytes, and over a buffer.
-ghost use Rattle.std.specs.Prelude.{◌≡◌, ◌+◌, ◌*◌, ◌≤◌, ◌⊎◌, int_lt, length, map, not, count_by, IfOk, IfErr};
+ghost use Rattle.std.specs.Prelude.{◌≡◌, ◌+◌, ◌*◌, ◌≤◌, int_lt, length, map, not, count_by, IfOk};
 ghost use Rattle.arrow2.specs.Buffers.{buffer_items};
+ghost use Rattle.arrow2.specs.Failures.{OnlyOverflowOrOutOfMemory};
 ghost use Rattle.arrow2.specs.Parts.{falses};
 ghost use Rattle.arrow2.specs.Storage.{items_of};
 
 use arrow2::bitmap::utils::BitChunksExactMut;
 use arrow2::bitmap::{Bitmap, MutableBitmap};
 use arrow2::buffer::Buffer;
-use arrow2::error::{Error, Result};
+use arrow2::error::Result;
 use arrow2::types::BitChunk;
 use std::alloc::Global;
 use std::convert::TryFrom;
@@ -19,7 +20,7 @@ use std::convert::TryFrom;
 /// `Overflow` or `OutOfMemory`.
 pub fn negation(alloc: Global, b: &Bitmap) -> Result<Bitmap>
     ensures items { IfOk result (λ r. items_of r ≡ map not (items_of b.now)) }
-    ensures only { IfErr result (λ e. (e ≡ Error.Overflow) ⊎ (e ≡ Error.OutOfMemory)) }
+    ensures only { OnlyOverflowOrOutOfMemory result }
 {
     let mut negated = MutableBitmap::with_capacity(alloc, b.len())?;
     for item in b.iter() {

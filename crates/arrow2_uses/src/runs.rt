@@ -1,13 +1,14 @@
 //! Valid values, copied run by run.
-ghost use Rattle.std.specs.Prelude.{◌≡◌, length, IfOk, IfErr};
+ghost use Rattle.std.specs.Prelude.{◌≡◌, length, IfOk};
 ghost use Rattle.std.specs.List.{flat_map};
+ghost use Rattle.arrow2.specs.Failures.{OnlyOutOfMemory};
 ghost use Rattle.arrow2.specs.Parts.{part};
 ghost use Rattle.arrow2.specs.Runs.{runs};
 ghost use Rattle.arrow2.specs.Storage.{items_of};
 
 use arrow2::bitmap::Bitmap;
 use arrow2::bitmap::utils::SlicesIterator;
-use arrow2::error::{Error, Result};
+use arrow2::error::Result;
 use arrow2::laws;
 use std::alloc::Global;
 
@@ -20,7 +21,7 @@ pub fn valid_values(alloc: Global, values: &[i64], validity: &Bitmap) -> Result<
     requires same_length { length (items_of validity.now) ≡ length values.now }
     ensures ok { IfOk result (λ valid. valid.items
         ≡ flat_map (λ run. part values.now run.0 run.1) (runs (items_of validity.now))) }
-    ensures only { IfErr result (λ e. e ≡ Error.OutOfMemory) }
+    ensures only { OnlyOutOfMemory result }
 {
     laws::walks::runs_lie_inside();
     let mut valid = Vec::new(alloc);

@@ -1,8 +1,9 @@
 //! Columns of texts: built, measured, and cut into lists.
-ghost use Rattle.std.specs.Prelude.{◌≡◌, ◌<◌, ◌≤◌, ◌⊎◌, [], Some, drop, length, map, slice_index_or, option_map, IfOk, IfErr};
+ghost use Rattle.std.specs.Prelude.{◌≡◌, ◌<◌, ◌≤◌, [], Some, drop, length, map, slice_index_or, option_map, IfOk};
 ghost use Rattle.std.specs.Option.{option_copied};
 ghost use Rattle.arrow2.specs.Binary.{binary_items};
 ghost use Rattle.arrow2.specs.Buffers.{buffer_items};
+ghost use Rattle.arrow2.specs.Failures.{OnlyOutOfMemory, OnlyOverflowOrOutOfMemory};
 ghost use Rattle.arrow2.specs.NestedLists.{cut};
 ghost use Rattle.arrow2.specs.Offsets.{start_of, lengths_of, last_of};
 ghost use Rattle.arrow2.specs.Primitive.{primitive_items};
@@ -12,7 +13,7 @@ ghost use Rattle.arrow2.specs.Zipped.{zipped};
 use arrow2::array::{MutablePrimitiveArray, MutableUtf8Array, PrimitiveArray, Utf8Array};
 use arrow2::bitmap::Bitmap;
 use arrow2::bitmap::utils::ZipValidityIter;
-use arrow2::error::{Error, Result};
+use arrow2::error::Result;
 use arrow2::offset::OffsetsBuffer;
 use std::alloc::Global;
 
@@ -23,7 +24,7 @@ use std::alloc::Global;
 /// `Overflow` or `OutOfMemory`.
 pub fn gather(alloc: Global, texts: &[&str]) -> Result<Utf8Array<i32>>
     ensures ok { IfOk result (λ t. binary_items t ≡ map (λ text. Some text.now) texts.entry.now) }
-    ensures only { IfErr result (λ e. (e ≡ Error.Overflow) ⊎ (e ≡ Error.OutOfMemory)) }
+    ensures only { OnlyOverflowOrOutOfMemory result }
 {
     let mut gathered = MutableUtf8Array::new(alloc)?;
     for text in texts {
@@ -40,7 +41,7 @@ pub fn gather(alloc: Global, texts: &[&str]) -> Result<Utf8Array<i32>>
 pub fn lengths(alloc: Global, texts: &Utf8Array<i32>) -> Result<PrimitiveArray<u64>>
     ensures ok { IfOk result (λ c. primitive_items c
         ≡ map (option_map (λ text. length text)) (binary_items texts.now)) }
-    ensures only { IfErr result (λ e. (e ≡ Error.Overflow) ⊎ (e ≡ Error.OutOfMemory)) }
+    ensures only { OnlyOverflowOrOutOfMemory result }
 {
     let mut lengths = MutablePrimitiveArray::<u64>::new(alloc)?;
     for text in texts.iter() {
@@ -76,7 +77,7 @@ pub fn list_at(
     ensures ok { IfOk result (λ list. binary_items list ≡ slice_index_or
         (cut (drop (start_of (buffer_items offsets.now)) (binary_items texts.now))
         (lengths_of (buffer_items offsets.now))) index []) }
-    ensures only { IfErr result (λ e. e ≡ Error.OutOfMemory) }
+    ensures only { OnlyOutOfMemory result }
 {
     let (start, end) = offsets.start_end(index);
     Ok(texts.clone()?.sliced(start, end - start))
@@ -97,7 +98,7 @@ pub fn valid_lengths(
         ≡ length (items_of validity.now) }
     ensures lengths { IfOk result (λ v.
         v.items ≡ zipped (lengths_of (buffer_items offsets.now)) (items_of validity.now)) }
-    ensures only { IfErr result (λ e. e ≡ Error.OutOfMemory) }
+    ensures only { OnlyOutOfMemory result }
 {
     let slots = ZipValidityIter::new(offsets.lengths(), validity.iter());
     Ok(slots.collect(alloc)?)

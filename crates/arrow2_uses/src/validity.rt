@@ -1,10 +1,11 @@
 //! Validity bitmaps.
-ghost use Rattle.std.specs.Prelude.{◌≡◌, ◌+◌, length, map, is_some, IfOk, IfErr, true, false, [], ◌∷◌};
+ghost use Rattle.std.specs.Prelude.{◌≡◌, ◌+◌, length, map, is_some, IfOk, true, false, [], ◌∷◌};
+ghost use Rattle.arrow2.specs.Failures.{OnlyOutOfMemory};
 ghost use Rattle.arrow2.specs.Parts.{falses};
 ghost use Rattle.arrow2.specs.Storage.{items_of};
 
 use arrow2::bitmap::{Bitmap, MutableBitmap};
-use arrow2::error::{Error, Result};
+use arrow2::error::Result;
 use std::alloc::Global;
 
 /// Returns which of the values are not null, as a validity bitmap.
@@ -14,7 +15,7 @@ use std::alloc::Global;
 /// Only `OutOfMemory`.
 pub fn validity_of(alloc: Global, values: &[Option<i64>]) -> Result<Bitmap>
     ensures items { IfOk result (λ b. items_of b ≡ map is_some values.now) }
-    ensures only { IfErr result (λ e. e ≡ Error.OutOfMemory) }
+    ensures only { OnlyOutOfMemory result }
 {
     let mut validity = MutableBitmap::with_capacity(alloc, values.len())?;
     for value in values {
@@ -49,7 +50,7 @@ pub fn nulls_by_halves(validity: &Bitmap) -> usize
 #[tactic(auto, unfolding(arrow2::specs::Bits::bits, arrow2::specs::Bits::unnum))]
 pub fn one_null_of_three(alloc: Global) -> Result<Bitmap>
     ensures items { IfOk result (λ b. items_of b ≡ true ∷ false ∷ true ∷ []) }
-    ensures only { IfErr result (λ e. e ≡ Error.OutOfMemory) }
+    ensures only { OnlyOutOfMemory result }
 {
     Bitmap::from_u8_slice(alloc, &[0b101], 3)
 }

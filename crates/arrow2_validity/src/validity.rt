@@ -1,12 +1,12 @@
 //! Which items of an array are not null.
-ghost use Rattle.std.specs.Prelude.{◌≡◌, ◌+◌, ◌<◌, ◌≤◌, ◌↔◌, [], ◌∷◌, None, Some, false, true, length, replicate, slice_index_or, string_bytes, option_map, MatchOption, IfOk, IfErr, IfSome, IsNone, IsOk, IsSome, IsTrue, ⊤};
+ghost use Rattle.std.specs.Prelude.{◌≡◌, ◌+◌, ◌<◌, ◌≤◌, ◌↔◌, [], ◌∷◌, None, Some, false, true, length, replicate, slice_index_or, string_bytes, option_map, MatchOption, IfOk, IfSome, IsNone, IsOk, IsSome, IsTrue, ⊤};
 ghost use Rattle.std.specs.Option.{ForSome};
 ghost use Rattle.either.specs.Either.{MatchEither};
 ghost use Rattle.arrow2_model.specs.Parts.{falses, part};
 ghost use Rattle.arrow2_model.specs.Storage.{items_of};
 ghost use Rattle.arrow2_model.specs.Tables.{each};
 ghost use Rattle.arrow2_packed_bits.specs.Growth.{Appends};
-ghost use Rattle.arrow2_types.specs.Failures.{FailsOnlyWith, error_of};
+ghost use Rattle.arrow2_types.specs.Failures.{FailsOnlyWith, error_of, OnlyOutOfMemory};
 ghost use Rattle.arrow2_validity.specs.OptionalValidity.{OptionalValidity, valid_items, sliced_validity};
 ghost use Rattle.arrow2_validity.specs.Failures.{unequal_lengths_message};
 
@@ -172,7 +172,7 @@ impl Validity {
         ensures made { IsNone self.bitmap → IfOk result (λ r. MatchEither r (λ _. ⊥) (λ _. ⊤)) }
         ensures begins { IfSome self.bitmap (λ b.
             IfOk result (λ r. MatchEither r (λ _. ⊤) (λ _. b.offset ≡ 0))) }
-        ensures only { IfErr result (λ e. e ≡ Error.OutOfMemory) }
+        ensures only { OnlyOutOfMemory result }
         ensures succeeds { IsSome self.bitmap → IsOk result }
     {
         let Validity { len, bitmap } = self;
@@ -216,7 +216,7 @@ impl Validity {
         ensures len { IfOk result (λ v. length (valid_items v) ≡ length (valid_items self.now)) }
         ensures bitmap { IfOk result (λ v.
             IsNone v.bitmap ↔ (IsNone self.now.bitmap × IsNone other.now.bitmap)) }
-        ensures only { IfErr result (λ e. e ≡ Error.OutOfMemory) }
+        ensures only { OnlyOutOfMemory result }
         ensures succeeds { IsNone self.now.bitmap → IsNone other.now.bitmap → IsOk result }
     {
         match (&self.bitmap, &other.bitmap) {

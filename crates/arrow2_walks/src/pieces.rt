@@ -1,13 +1,14 @@
 //! A bitmap that is cut into consecutive slices, and the number of bytes that the cuts counted as read.
-ghost use Rattle.std.specs.Prelude.{◌≡◌, ◌+◌, ◌-◌, ◌*◌, ◌<◌, ◌≤◌, ◌∷◌, [], length, map, IfOk, IfErr, OnOk, OnErr};
+ghost use Rattle.std.specs.Prelude.{◌≡◌, ◌+◌, ◌-◌, ◌*◌, ◌<◌, ◌≤◌, ◌∷◌, [], length, map, IfOk, OnOk, OnErr};
 ghost use Rattle.arrow2_model.specs.Storage.{BitmapStorage, items_of};
 ghost use Rattle.arrow2_model.specs.Touched.{cut_reads, lg, slice_reads};
+ghost use Rattle.arrow2_types.specs.Failures.{OnlyOutOfMemory};
 ghost use Rattle.arrow2_types.specs.declared.error.Error.TheVariants.{OutOfMemory};
 ghost use Rattle.arrow2_walks.specs.Cuts.{IsWithinBudget, back, cut_at, front, all_items, piece_at, piece_of};
 
 use arrow2_bitmap::Bitmap;
 use arrow2_bits::Reads;
-use arrow2_types::{Error, Result};
+use arrow2_types::Result;
 use std::alloc::Global;
 use std::marker::Model;
 
@@ -46,7 +47,7 @@ impl Pieces {
     /// Only `OutOfMemory`. The bitmap is then dropped.
     pub fn new(alloc: Global, bitmap: Bitmap) -> Result<Pieces>
         ensures ok { IfOk result (λ p. p ≡ record { pieces = piece_of bitmap ∷ []; reads = 0 }) }
-        ensures only { IfErr result (λ e. e ≡ Error.OutOfMemory) }
+        ensures only { OnlyOutOfMemory result }
     {
         let mut bitmaps = Vec::new(alloc);
         bitmaps.push(bitmap)?;
@@ -105,7 +106,7 @@ impl Pieces {
             8 * self.new.reads ≤ 2 * (n * lg n) + 30 * (length self.new.pieces - 1) }
         // A cut that fails changes and counts nothing.
         ensures err { OnErr result (self.new ≡ self.old) }
-        ensures only { IfErr result (λ e. e ≡ Error.OutOfMemory) }
+        ensures only { OnlyOutOfMemory result }
     {
         cut_in_two(&mut self.bitmaps, p, i, &mut self.reads)
     }
@@ -127,7 +128,7 @@ fn cut_in_two(bitmaps: &mut Vec<Bitmap>, p: usize, i: usize, reads: &mut Reads) 
     // A cut that fails changes and counts nothing.
     ensures err { OnErr result (bitmaps.new.items ≡ bitmaps.old.items) }
     ensures uncounted { OnErr result (reads.new ≡ reads.old) }
-    ensures only { IfErr result (λ e. e ≡ Error.OutOfMemory) }
+    ensures only { OnlyOutOfMemory result }
 {
     let whole = bitmaps[p].clone()?;
     bitmaps.insert(p + 1, whole)?;

@@ -3,8 +3,7 @@
 
 use super::checks::{assert_booleans, assert_that, ok};
 use super::kernels::{array_of, booleans, booleans_below, numbers_below, texts, texts_below};
-use arrow2::array::{BooleanArray, PrimitiveArray};
-use arrow2::compute::binary::Binary;
+use arrow2::array::{BooleanArray, ByteArrayType, GenericByteArray, PrimitiveArray};
 use arrow2::compute::comparison::{binary, boolean, eq, gt, gt_eq, lt, lt_eq, neq};
 use arrow2::error::Result;
 use arrow2::types::Offset;
@@ -92,14 +91,14 @@ fn comparisons_of_numbers_agree_with_lists(rt: HostRuntime) {
 }
 
 /// Checks the six comparisons of two arrays of byte strings or of texts, whose items compare so.
-fn compares_binary<A: Binary>(
+fn compares_binary<T: ByteArrayType, O: Offset>(
     rt: &impl Abort,
     alloc: Global,
-    a: &A,
-    b: &A,
+    a: &GenericByteArray<T, O>,
+    b: &GenericByteArray<T, O>,
     orders: &[Option<Ordering>],
 ) {
-    assert_that(rt, a.count() == b.count());
+    assert_that(rt, a.len() == b.len());
     is_compared(rt, alloc, binary::eq(a, b), orders, (false, true, false));
     is_compared(rt, alloc, binary::neq(a, b), orders, (true, false, true));
     is_compared(rt, alloc, binary::lt(a, b), orders, (true, false, false));
@@ -109,10 +108,10 @@ fn compares_binary<A: Binary>(
 }
 
 /// Checks the comparisons with a byte string. `orders` lists how the items compare with it.
-fn compares_with_bytes<A: Binary>(
+fn compares_with_bytes<T: ByteArrayType, O: Offset>(
     rt: &impl Abort,
     alloc: Global,
-    a: &A,
+    a: &GenericByteArray<T, O>,
     bytes: &[u8],
     orders: &[Option<Ordering>],
 ) {

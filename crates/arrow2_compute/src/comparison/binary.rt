@@ -4,20 +4,22 @@
 //!
 //! Differs from arrow2: these calls compare texts too, for which arrow2 has `comparison::utf8`, and the scalar for
 //! texts is a slice of bytes. arrow2 has no call `compare_each`.
-ghost use Rattle.std.specs.Prelude.{◌≡◌, ◌<◌, ◌↔◌, Bool, List, false, length, map, not, option_map, slice_index_or, IfErr, IfOk, IsNone, ℕ};
+ghost use Rattle.std.specs.Prelude.{◌≡◌, ◌<◌, ◌↔◌, Bool, List, false, length, map, not, option_map, slice_index_or, IfOk, IsNone, ℕ};
 ghost use Rattle.std.specs.Ordering.{partial_ge, partial_gt, partial_le, partial_lt};
 ghost use Rattle.std.specs.Simd.Lanes.{zip2};
 ghost use Rattle.arrow2_array.specs.Items.{boolean_items};
 ghost use Rattle.arrow2_bitmap.specs.Predicates.{IsCallableWithEach, IsCallableWithPairs, IsPairResultAt, IsResultAt, ReturnsOnEach, ReturnsOnPairs};
-ghost use Rattle.arrow2_compute.specs.Comparisons.{bytes_cmp, bytes_eq};
+ghost use Rattle.arrow2_compute.specs.Comparisons.{bytes_cmp, bytes_eq, compared};
 ghost use Rattle.arrow2_model.specs.Storage.{items_of};
 ghost use Rattle.arrow2_numeric.specs.Pairs.{of_both};
 ghost use Rattle.arrow2_text.specs.Binary.{binary_items, binary_values};
+ghost use Rattle.arrow2_types.specs.Failures.{OnlyOutOfMemory};
 
-use crate::binary::Binary;
 use arrow2_array::BooleanArray;
 use arrow2_bitmap::Bitmap;
-use arrow2_types::{Error, Result};
+use arrow2_index::Offset;
+use arrow2_text::{ByteArrayType, GenericByteArray};
+use arrow2_types::Result;
 
 /// Returns, item by item, the result of `test` for the bytes, and null where the item is null. If the contract of
 /// `test` fixes its result for each byte string, the clause `items` states exactly this. The other clauses hold for any
@@ -27,28 +29,31 @@ use arrow2_types::{Error, Result};
 /// # Errors
 ///
 /// Only `OutOfMemory`.
-pub fn compare_each<A: Binary, F: Fn(&[u8]) -> bool>(array: &A, test: F) -> Result<BooleanArray>
-    requires callable { IsCallableWithEach (binary_values (A.parts array.now)) (F.pre test) }
+pub fn compare_each<T: ByteArrayType, O: Offset, F: Fn(&[u8]) -> bool>(
+    array: &GenericByteArray<T, O>,
+    test: F,
+) -> Result<BooleanArray>
+    requires callable { IsCallableWithEach (binary_values array.now) (F.pre test) }
     ensures items { (outcome : List ℕ → Bool) →
-        ReturnsOnEach (binary_values (A.parts array.now)) (F.post test) outcome →
-        IfOk result (λ a. boolean_items a ≡ map (option_map outcome) (binary_items (A.parts array.now))) }
+        ReturnsOnEach (binary_values array.now) (F.post test) outcome →
+        IfOk result (λ a. boolean_items a ≡ map (option_map outcome) (binary_items array.now)) }
     // For any `test`: the boolean stored at an index is one that `test` may return for the bytes there.
-    ensures results { let values = binary_values (A.parts array.now) in
+    ensures results { let values = binary_values array.now in
         IfOk result (λ a. (index : ℕ) → index < length values →
         IsResultAt values (F.post test) index (slice_index_or (items_of a.values) index false)) }
-    ensures len { IfOk result (λ a. length (items_of a.values) ≡ length (binary_values (A.parts array.now))) }
-    ensures validity { IfOk result (λ a. a.validity ≡ (A.parts array.now).validity) }
-    ensures only { IfErr result (λ e. e ≡ Error.OutOfMemory) }
+    ensures len { IfOk result (λ a. length (items_of a.values) ≡ length (binary_values array.now)) }
+    ensures validity { IfOk result (λ a. a.validity ≡ array.now.validity) }
+    ensures only { OnlyOutOfMemory result }
 {
     let tested = Bitmap::try_from_fn(
-        array.allocator(),
-        array.count(),
+        array.values().allocator(),
+        array.len(),
         |index|
-            requires below { (index < length (binary_items (A.parts array.now)))
-                × (index < length (binary_values (A.parts array.now))) }
-            requires callable { IsCallableWithEach (binary_values (A.parts array.now)) (F.pre test) }
-            ensures { IsResultAt (binary_values (A.parts array.entry.now)) (F.post test) index result }
-        { test(array.value(index)) },
+            requires below { (index < length (binary_items array.now))
+                × (index < length (binary_values array.now)) }
+            requires callable { IsCallableWithEach (binary_values array.now) (F.pre test) }
+            ensures { IsResultAt (binary_values array.entry.now) (F.post test) index result }
+        { test(array.value_bytes(index)) },
     )?;
     Ok(BooleanArray::from_parts(tested, array.optional_validity().clone()?))
 }
@@ -58,11 +63,14 @@ pub fn compare_each<A: Binary, F: Fn(&[u8]) -> bool>(array: &A, test: F) -> Resu
 /// # Errors
 ///
 /// Only `OutOfMemory`.
-pub fn eq_scalar<A: Binary>(array: &A, scalar: &[u8]) -> Result<BooleanArray>
+pub fn eq_scalar<T: ByteArrayType, O: Offset>(
+    array: &GenericByteArray<T, O>,
+    scalar: &[u8],
+) -> Result<BooleanArray>
     ensures items { IfOk result (λ a. boolean_items a
-        ≡ map (option_map (λ value. bytes_eq value scalar.now)) (binary_items (A.parts array.now))) }
-    ensures validity { IfOk result (λ a. a.validity ≡ (A.parts array.now).validity) }
-    ensures only { IfErr result (λ e. e ≡ Error.OutOfMemory) }
+        ≡ map (option_map (λ value. bytes_eq value scalar.now)) (binary_items array.now)) }
+    ensures validity { IfOk result (λ a. a.validity ≡ array.now.validity) }
+    ensures only { OnlyOutOfMemory result }
 {
     compare_each(array, |value| value == scalar)
 }
@@ -72,11 +80,14 @@ pub fn eq_scalar<A: Binary>(array: &A, scalar: &[u8]) -> Result<BooleanArray>
 /// # Errors
 ///
 /// Only `OutOfMemory`.
-pub fn neq_scalar<A: Binary>(array: &A, scalar: &[u8]) -> Result<BooleanArray>
+pub fn neq_scalar<T: ByteArrayType, O: Offset>(
+    array: &GenericByteArray<T, O>,
+    scalar: &[u8],
+) -> Result<BooleanArray>
     ensures items { IfOk result (λ a. boolean_items a
-        ≡ map (option_map (λ value. not (bytes_eq value scalar.now))) (binary_items (A.parts array.now))) }
-    ensures validity { IfOk result (λ a. a.validity ≡ (A.parts array.now).validity) }
-    ensures only { IfErr result (λ e. e ≡ Error.OutOfMemory) }
+        ≡ map (option_map (λ value. not (bytes_eq value scalar.now))) (binary_items array.now)) }
+    ensures validity { IfOk result (λ a. a.validity ≡ array.now.validity) }
+    ensures only { OnlyOutOfMemory result }
 {
     compare_each(array, |value| value != scalar)
 }
@@ -86,11 +97,14 @@ pub fn neq_scalar<A: Binary>(array: &A, scalar: &[u8]) -> Result<BooleanArray>
 /// # Errors
 ///
 /// Only `OutOfMemory`.
-pub fn lt_scalar<A: Binary>(array: &A, scalar: &[u8]) -> Result<BooleanArray>
+pub fn lt_scalar<T: ByteArrayType, O: Offset>(
+    array: &GenericByteArray<T, O>,
+    scalar: &[u8],
+) -> Result<BooleanArray>
     ensures items { IfOk result (λ a. boolean_items a
-        ≡ map (option_map (λ value. partial_lt bytes_cmp value scalar.now)) (binary_items (A.parts array.now))) }
-    ensures validity { IfOk result (λ a. a.validity ≡ (A.parts array.now).validity) }
-    ensures only { IfErr result (λ e. e ≡ Error.OutOfMemory) }
+        ≡ map (option_map (λ value. partial_lt bytes_cmp value scalar.now)) (binary_items array.now)) }
+    ensures validity { IfOk result (λ a. a.validity ≡ array.now.validity) }
+    ensures only { OnlyOutOfMemory result }
 {
     compare_each(array, |value| value < scalar)
 }
@@ -100,11 +114,14 @@ pub fn lt_scalar<A: Binary>(array: &A, scalar: &[u8]) -> Result<BooleanArray>
 /// # Errors
 ///
 /// Only `OutOfMemory`.
-pub fn lt_eq_scalar<A: Binary>(array: &A, scalar: &[u8]) -> Result<BooleanArray>
+pub fn lt_eq_scalar<T: ByteArrayType, O: Offset>(
+    array: &GenericByteArray<T, O>,
+    scalar: &[u8],
+) -> Result<BooleanArray>
     ensures items { IfOk result (λ a. boolean_items a
-        ≡ map (option_map (λ value. partial_le bytes_cmp value scalar.now)) (binary_items (A.parts array.now))) }
-    ensures validity { IfOk result (λ a. a.validity ≡ (A.parts array.now).validity) }
-    ensures only { IfErr result (λ e. e ≡ Error.OutOfMemory) }
+        ≡ map (option_map (λ value. partial_le bytes_cmp value scalar.now)) (binary_items array.now)) }
+    ensures validity { IfOk result (λ a. a.validity ≡ array.now.validity) }
+    ensures only { OnlyOutOfMemory result }
 {
     compare_each(array, |value| value <= scalar)
 }
@@ -114,11 +131,14 @@ pub fn lt_eq_scalar<A: Binary>(array: &A, scalar: &[u8]) -> Result<BooleanArray>
 /// # Errors
 ///
 /// Only `OutOfMemory`.
-pub fn gt_scalar<A: Binary>(array: &A, scalar: &[u8]) -> Result<BooleanArray>
+pub fn gt_scalar<T: ByteArrayType, O: Offset>(
+    array: &GenericByteArray<T, O>,
+    scalar: &[u8],
+) -> Result<BooleanArray>
     ensures items { IfOk result (λ a. boolean_items a
-        ≡ map (option_map (λ value. partial_gt bytes_cmp value scalar.now)) (binary_items (A.parts array.now))) }
-    ensures validity { IfOk result (λ a. a.validity ≡ (A.parts array.now).validity) }
-    ensures only { IfErr result (λ e. e ≡ Error.OutOfMemory) }
+        ≡ map (option_map (λ value. partial_gt bytes_cmp value scalar.now)) (binary_items array.now)) }
+    ensures validity { IfOk result (λ a. a.validity ≡ array.now.validity) }
+    ensures only { OnlyOutOfMemory result }
 {
     compare_each(array, |value| value > scalar)
 }
@@ -128,11 +148,14 @@ pub fn gt_scalar<A: Binary>(array: &A, scalar: &[u8]) -> Result<BooleanArray>
 /// # Errors
 ///
 /// Only `OutOfMemory`.
-pub fn gt_eq_scalar<A: Binary>(array: &A, scalar: &[u8]) -> Result<BooleanArray>
+pub fn gt_eq_scalar<T: ByteArrayType, O: Offset>(
+    array: &GenericByteArray<T, O>,
+    scalar: &[u8],
+) -> Result<BooleanArray>
     ensures items { IfOk result (λ a. boolean_items a
-        ≡ map (option_map (λ value. partial_ge bytes_cmp value scalar.now)) (binary_items (A.parts array.now))) }
-    ensures validity { IfOk result (λ a. a.validity ≡ (A.parts array.now).validity) }
-    ensures only { IfErr result (λ e. e ≡ Error.OutOfMemory) }
+        ≡ map (option_map (λ value. partial_ge bytes_cmp value scalar.now)) (binary_items array.now)) }
+    ensures validity { IfOk result (λ a. a.validity ≡ array.now.validity) }
+    ensures only { OnlyOutOfMemory result }
 {
     compare_each(array, |value| value >= scalar)
 }
@@ -144,36 +167,35 @@ pub fn gt_eq_scalar<A: Binary>(array: &A, scalar: &[u8]) -> Result<BooleanArray>
 /// # Errors
 ///
 /// Only `OutOfMemory`.
-fn compare_pairs<A: Binary, F: Fn(&[u8], &[u8]) -> bool>(
-    lhs: &A,
-    rhs: &A,
+fn compare_pairs<T: ByteArrayType, O: Offset, F: Fn(&[u8], &[u8]) -> bool>(
+    lhs: &GenericByteArray<T, O>,
+    rhs: &GenericByteArray<T, O>,
     test: F,
 ) -> Result<BooleanArray>
-    requires same_length { length (binary_items (A.parts lhs.now)) ≡ length (binary_items (A.parts rhs.now)) }
-    requires callable { IsCallableWithPairs (binary_values (A.parts lhs.now)) (binary_values (A.parts rhs.now)) (F.pre test) }
-    ensures items { let left = A.parts lhs.now in let right = A.parts rhs.now in
-        (outcome : List ℕ → List ℕ → Bool) →
-        ReturnsOnPairs (binary_values left) (binary_values right) (F.post test) outcome →
-        IfOk result (λ a. boolean_items a ≡ zip2 (of_both outcome) (binary_items left) (binary_items right)) }
+    requires same_length { length (binary_items lhs.now) ≡ length (binary_items rhs.now) }
+    requires callable { IsCallableWithPairs (binary_values lhs.now) (binary_values rhs.now) (F.pre test) }
+    ensures items { (outcome : List ℕ → List ℕ → Bool) →
+        ReturnsOnPairs (binary_values lhs.now) (binary_values rhs.now) (F.post test) outcome →
+        IfOk result (λ a. boolean_items a ≡ compared outcome lhs.now rhs.now) }
     ensures bitmap { IfOk result (λ a. IsNone a.validity.bitmap
-        ↔ (IsNone (A.parts lhs.now).validity.bitmap × IsNone (A.parts rhs.now).validity.bitmap)) }
-    ensures only { IfErr result (λ e. e ≡ Error.OutOfMemory) }
+        ↔ (IsNone lhs.now.validity.bitmap × IsNone rhs.now.validity.bitmap)) }
+    ensures only { OnlyOutOfMemory result }
 {
-    let (count, other) = (lhs.count(), rhs.count());
+    let (count, other) = (lhs.len(), rhs.len());
     prove!(count == other);
     let tested = Bitmap::try_from_fn(
-        lhs.allocator(),
+        lhs.values().allocator(),
         count,
         |index|
-            requires left { (index < length (binary_items (A.parts lhs.now)))
-                × (index < length (binary_values (A.parts lhs.now))) }
-            requires right { (index < length (binary_items (A.parts rhs.now)))
-                × (index < length (binary_values (A.parts rhs.now))) }
-            requires callable { IsCallableWithPairs (binary_values (A.parts lhs.now))
-                (binary_values (A.parts rhs.now)) (F.pre test) }
-            ensures { IsPairResultAt (binary_values (A.parts lhs.entry.now))
-                (binary_values (A.parts rhs.entry.now)) (F.post test) index result }
-        { test(lhs.value(index), rhs.value(index)) },
+            requires left { (index < length (binary_items lhs.now))
+                × (index < length (binary_values lhs.now)) }
+            requires right { (index < length (binary_items rhs.now))
+                × (index < length (binary_values rhs.now)) }
+            requires callable { IsCallableWithPairs (binary_values lhs.now)
+                (binary_values rhs.now) (F.pre test) }
+            ensures { IsPairResultAt (binary_values lhs.entry.now)
+                (binary_values rhs.entry.now) (F.post test) index result }
+        { test(lhs.value_bytes(index), rhs.value_bytes(index)) },
     )?;
     let validity = lhs.optional_validity().both(rhs.optional_validity())?;
     Ok(BooleanArray::from_parts(tested, validity))
@@ -185,13 +207,16 @@ fn compare_pairs<A: Binary, F: Fn(&[u8], &[u8]) -> bool>(
 /// # Errors
 ///
 /// Only `OutOfMemory`.
-pub fn eq<A: Binary>(lhs: &A, rhs: &A) -> Result<BooleanArray>
-    requires same_length { length (binary_items (A.parts lhs.now)) ≡ length (binary_items (A.parts rhs.now)) }
+pub fn eq<T: ByteArrayType, O: Offset>(
+    lhs: &GenericByteArray<T, O>,
+    rhs: &GenericByteArray<T, O>,
+) -> Result<BooleanArray>
+    requires same_length { length (binary_items lhs.now) ≡ length (binary_items rhs.now) }
     ensures items { IfOk result (λ a. boolean_items a
-        ≡ zip2 (of_both bytes_eq) (binary_items (A.parts lhs.now)) (binary_items (A.parts rhs.now))) }
+        ≡ zip2 (of_both bytes_eq) (binary_items lhs.now) (binary_items rhs.now)) }
     ensures bitmap { IfOk result (λ a. IsNone a.validity.bitmap
-        ↔ (IsNone (A.parts lhs.now).validity.bitmap × IsNone (A.parts rhs.now).validity.bitmap)) }
-    ensures only { IfErr result (λ e. e ≡ Error.OutOfMemory) }
+        ↔ (IsNone lhs.now.validity.bitmap × IsNone rhs.now.validity.bitmap)) }
+    ensures only { OnlyOutOfMemory result }
 {
     compare_pairs(lhs, rhs, |left, right| left == right)
 }
@@ -202,13 +227,16 @@ pub fn eq<A: Binary>(lhs: &A, rhs: &A) -> Result<BooleanArray>
 /// # Errors
 ///
 /// Only `OutOfMemory`.
-pub fn neq<A: Binary>(lhs: &A, rhs: &A) -> Result<BooleanArray>
-    requires same_length { length (binary_items (A.parts lhs.now)) ≡ length (binary_items (A.parts rhs.now)) }
+pub fn neq<T: ByteArrayType, O: Offset>(
+    lhs: &GenericByteArray<T, O>,
+    rhs: &GenericByteArray<T, O>,
+) -> Result<BooleanArray>
+    requires same_length { length (binary_items lhs.now) ≡ length (binary_items rhs.now) }
     ensures items { IfOk result (λ a. boolean_items a
-        ≡ zip2 (of_both (λ left right. not (bytes_eq left right))) (binary_items (A.parts lhs.now)) (binary_items (A.parts rhs.now))) }
+        ≡ zip2 (of_both (λ left right. not (bytes_eq left right))) (binary_items lhs.now) (binary_items rhs.now)) }
     ensures bitmap { IfOk result (λ a. IsNone a.validity.bitmap
-        ↔ (IsNone (A.parts lhs.now).validity.bitmap × IsNone (A.parts rhs.now).validity.bitmap)) }
-    ensures only { IfErr result (λ e. e ≡ Error.OutOfMemory) }
+        ↔ (IsNone lhs.now.validity.bitmap × IsNone rhs.now.validity.bitmap)) }
+    ensures only { OnlyOutOfMemory result }
 {
     compare_pairs(lhs, rhs, |left, right| left != right)
 }
@@ -219,13 +247,16 @@ pub fn neq<A: Binary>(lhs: &A, rhs: &A) -> Result<BooleanArray>
 /// # Errors
 ///
 /// Only `OutOfMemory`.
-pub fn lt<A: Binary>(lhs: &A, rhs: &A) -> Result<BooleanArray>
-    requires same_length { length (binary_items (A.parts lhs.now)) ≡ length (binary_items (A.parts rhs.now)) }
+pub fn lt<T: ByteArrayType, O: Offset>(
+    lhs: &GenericByteArray<T, O>,
+    rhs: &GenericByteArray<T, O>,
+) -> Result<BooleanArray>
+    requires same_length { length (binary_items lhs.now) ≡ length (binary_items rhs.now) }
     ensures items { IfOk result (λ a. boolean_items a
-        ≡ zip2 (of_both (partial_lt bytes_cmp)) (binary_items (A.parts lhs.now)) (binary_items (A.parts rhs.now))) }
+        ≡ zip2 (of_both (partial_lt bytes_cmp)) (binary_items lhs.now) (binary_items rhs.now)) }
     ensures bitmap { IfOk result (λ a. IsNone a.validity.bitmap
-        ↔ (IsNone (A.parts lhs.now).validity.bitmap × IsNone (A.parts rhs.now).validity.bitmap)) }
-    ensures only { IfErr result (λ e. e ≡ Error.OutOfMemory) }
+        ↔ (IsNone lhs.now.validity.bitmap × IsNone rhs.now.validity.bitmap)) }
+    ensures only { OnlyOutOfMemory result }
 {
     compare_pairs(lhs, rhs, |left, right| left < right)
 }
@@ -236,13 +267,16 @@ pub fn lt<A: Binary>(lhs: &A, rhs: &A) -> Result<BooleanArray>
 /// # Errors
 ///
 /// Only `OutOfMemory`.
-pub fn lt_eq<A: Binary>(lhs: &A, rhs: &A) -> Result<BooleanArray>
-    requires same_length { length (binary_items (A.parts lhs.now)) ≡ length (binary_items (A.parts rhs.now)) }
+pub fn lt_eq<T: ByteArrayType, O: Offset>(
+    lhs: &GenericByteArray<T, O>,
+    rhs: &GenericByteArray<T, O>,
+) -> Result<BooleanArray>
+    requires same_length { length (binary_items lhs.now) ≡ length (binary_items rhs.now) }
     ensures items { IfOk result (λ a. boolean_items a
-        ≡ zip2 (of_both (partial_le bytes_cmp)) (binary_items (A.parts lhs.now)) (binary_items (A.parts rhs.now))) }
+        ≡ zip2 (of_both (partial_le bytes_cmp)) (binary_items lhs.now) (binary_items rhs.now)) }
     ensures bitmap { IfOk result (λ a. IsNone a.validity.bitmap
-        ↔ (IsNone (A.parts lhs.now).validity.bitmap × IsNone (A.parts rhs.now).validity.bitmap)) }
-    ensures only { IfErr result (λ e. e ≡ Error.OutOfMemory) }
+        ↔ (IsNone lhs.now.validity.bitmap × IsNone rhs.now.validity.bitmap)) }
+    ensures only { OnlyOutOfMemory result }
 {
     compare_pairs(lhs, rhs, |left, right| left <= right)
 }
@@ -253,13 +287,16 @@ pub fn lt_eq<A: Binary>(lhs: &A, rhs: &A) -> Result<BooleanArray>
 /// # Errors
 ///
 /// Only `OutOfMemory`.
-pub fn gt<A: Binary>(lhs: &A, rhs: &A) -> Result<BooleanArray>
-    requires same_length { length (binary_items (A.parts lhs.now)) ≡ length (binary_items (A.parts rhs.now)) }
+pub fn gt<T: ByteArrayType, O: Offset>(
+    lhs: &GenericByteArray<T, O>,
+    rhs: &GenericByteArray<T, O>,
+) -> Result<BooleanArray>
+    requires same_length { length (binary_items lhs.now) ≡ length (binary_items rhs.now) }
     ensures items { IfOk result (λ a. boolean_items a
-        ≡ zip2 (of_both (partial_gt bytes_cmp)) (binary_items (A.parts lhs.now)) (binary_items (A.parts rhs.now))) }
+        ≡ zip2 (of_both (partial_gt bytes_cmp)) (binary_items lhs.now) (binary_items rhs.now)) }
     ensures bitmap { IfOk result (λ a. IsNone a.validity.bitmap
-        ↔ (IsNone (A.parts lhs.now).validity.bitmap × IsNone (A.parts rhs.now).validity.bitmap)) }
-    ensures only { IfErr result (λ e. e ≡ Error.OutOfMemory) }
+        ↔ (IsNone lhs.now.validity.bitmap × IsNone rhs.now.validity.bitmap)) }
+    ensures only { OnlyOutOfMemory result }
 {
     compare_pairs(lhs, rhs, |left, right| left > right)
 }
@@ -270,13 +307,16 @@ pub fn gt<A: Binary>(lhs: &A, rhs: &A) -> Result<BooleanArray>
 /// # Errors
 ///
 /// Only `OutOfMemory`.
-pub fn gt_eq<A: Binary>(lhs: &A, rhs: &A) -> Result<BooleanArray>
-    requires same_length { length (binary_items (A.parts lhs.now)) ≡ length (binary_items (A.parts rhs.now)) }
+pub fn gt_eq<T: ByteArrayType, O: Offset>(
+    lhs: &GenericByteArray<T, O>,
+    rhs: &GenericByteArray<T, O>,
+) -> Result<BooleanArray>
+    requires same_length { length (binary_items lhs.now) ≡ length (binary_items rhs.now) }
     ensures items { IfOk result (λ a. boolean_items a
-        ≡ zip2 (of_both (partial_ge bytes_cmp)) (binary_items (A.parts lhs.now)) (binary_items (A.parts rhs.now))) }
+        ≡ zip2 (of_both (partial_ge bytes_cmp)) (binary_items lhs.now) (binary_items rhs.now)) }
     ensures bitmap { IfOk result (λ a. IsNone a.validity.bitmap
-        ↔ (IsNone (A.parts lhs.now).validity.bitmap × IsNone (A.parts rhs.now).validity.bitmap)) }
-    ensures only { IfErr result (λ e. e ≡ Error.OutOfMemory) }
+        ↔ (IsNone lhs.now.validity.bitmap × IsNone rhs.now.validity.bitmap)) }
+    ensures only { OnlyOutOfMemory result }
 {
     compare_pairs(lhs, rhs, |left, right| left >= right)
 }

@@ -1,15 +1,16 @@
 //! Comparisons of booleans, where `false` is below `true`. An item of the result is null where an input item is null.
 //! The result has a validity bitmap exactly if an input has one.
-ghost use Rattle.std.specs.Prelude.{◌≡◌, ◌↔◌, ◌∷◌, [], Bool, length, map, not, option_map, IfErr, IfOk, IsNone};
+ghost use Rattle.std.specs.Prelude.{◌≡◌, ◌↔◌, ◌∷◌, [], Bool, length, map, not, option_map, IfOk, IsNone};
 ghost use Rattle.std.specs.Simd.Lanes.{zip2};
 ghost use Rattle.arrow2_array.specs.Items.{boolean_items};
 ghost use Rattle.arrow2_compute.specs.Comparisons.{bool_eq, bool_le, bool_lt};
 ghost use Rattle.arrow2_model.specs.Tables.{answer};
 ghost use Rattle.arrow2_numeric.specs.Pairs.{of_both};
+ghost use Rattle.arrow2_types.specs.Failures.{OnlyOutOfMemory};
 
 use arrow2_array::BooleanArray;
 use arrow2_bitmap::bitmap_ops::{binary_table, unary_table};
-use arrow2_types::{Error, Result};
+use arrow2_types::Result;
 
 // The truth tables of the comparisons: bit `left + 2 * right` is the result for these two items as 0 or 1.
 const EQ: u8 = 0b1001;
@@ -29,7 +30,7 @@ fn compare_each(array: &BooleanArray, scalar: bool, table: u8) -> Result<Boolean
     ensures items { IfOk result (λ a. boolean_items a
         ≡ map (option_map (λ value. answer table (value ∷ scalar ∷ []))) (boolean_items array.now)) }
     ensures validity { IfOk result (λ a. a.validity ≡ array.now.validity) }
-    ensures only { IfErr result (λ e. e ≡ Error.OutOfMemory) }
+    ensures only { OnlyOutOfMemory result }
 {
     let tested = unary_table(array.values(), outputs_beside(scalar, table))?;
     Ok(BooleanArray::from_parts(tested, array.optional_validity().clone()?))
@@ -52,7 +53,7 @@ pub fn eq_scalar(array: &BooleanArray, scalar: bool) -> Result<BooleanArray>
     ensures items { IfOk result (λ a. boolean_items a
         ≡ map (option_map (λ value. bool_eq value scalar)) (boolean_items array.now)) }
     ensures validity { IfOk result (λ a. a.validity ≡ array.now.validity) }
-    ensures only { IfErr result (λ e. e ≡ Error.OutOfMemory) }
+    ensures only { OnlyOutOfMemory result }
 {
     compare_each(array, scalar, EQ)
 }
@@ -66,7 +67,7 @@ pub fn neq_scalar(array: &BooleanArray, scalar: bool) -> Result<BooleanArray>
     ensures items { IfOk result (λ a. boolean_items a
         ≡ map (option_map (λ value. not (bool_eq value scalar))) (boolean_items array.now)) }
     ensures validity { IfOk result (λ a. a.validity ≡ array.now.validity) }
-    ensures only { IfErr result (λ e. e ≡ Error.OutOfMemory) }
+    ensures only { OnlyOutOfMemory result }
 {
     compare_each(array, scalar, NEQ)
 }
@@ -80,7 +81,7 @@ pub fn lt_scalar(array: &BooleanArray, scalar: bool) -> Result<BooleanArray>
     ensures items { IfOk result (λ a. boolean_items a
         ≡ map (option_map (λ value. bool_lt value scalar)) (boolean_items array.now)) }
     ensures validity { IfOk result (λ a. a.validity ≡ array.now.validity) }
-    ensures only { IfErr result (λ e. e ≡ Error.OutOfMemory) }
+    ensures only { OnlyOutOfMemory result }
 {
     compare_each(array, scalar, LT)
 }
@@ -94,7 +95,7 @@ pub fn lt_eq_scalar(array: &BooleanArray, scalar: bool) -> Result<BooleanArray>
     ensures items { IfOk result (λ a. boolean_items a
         ≡ map (option_map (λ value. bool_le value scalar)) (boolean_items array.now)) }
     ensures validity { IfOk result (λ a. a.validity ≡ array.now.validity) }
-    ensures only { IfErr result (λ e. e ≡ Error.OutOfMemory) }
+    ensures only { OnlyOutOfMemory result }
 {
     compare_each(array, scalar, LT_EQ)
 }
@@ -108,7 +109,7 @@ pub fn gt_scalar(array: &BooleanArray, scalar: bool) -> Result<BooleanArray>
     ensures items { IfOk result (λ a. boolean_items a
         ≡ map (option_map (λ value. bool_lt scalar value)) (boolean_items array.now)) }
     ensures validity { IfOk result (λ a. a.validity ≡ array.now.validity) }
-    ensures only { IfErr result (λ e. e ≡ Error.OutOfMemory) }
+    ensures only { OnlyOutOfMemory result }
 {
     compare_each(array, scalar, GT)
 }
@@ -122,7 +123,7 @@ pub fn gt_eq_scalar(array: &BooleanArray, scalar: bool) -> Result<BooleanArray>
     ensures items { IfOk result (λ a. boolean_items a
         ≡ map (option_map (λ value. bool_le scalar value)) (boolean_items array.now)) }
     ensures validity { IfOk result (λ a. a.validity ≡ array.now.validity) }
-    ensures only { IfErr result (λ e. e ≡ Error.OutOfMemory) }
+    ensures only { OnlyOutOfMemory result }
 {
     compare_each(array, scalar, GT_EQ)
 }
@@ -135,7 +136,7 @@ fn compare_pairs(lhs: &BooleanArray, rhs: &BooleanArray, table: u8) -> Result<Bo
         answer table (left ∷ right ∷ []))) (boolean_items lhs.now) (boolean_items rhs.now)) }
     ensures bitmap { IfOk result (λ a.
         IsNone a.validity.bitmap ↔ (IsNone lhs.now.validity.bitmap × IsNone rhs.now.validity.bitmap)) }
-    ensures only { IfErr result (λ e. e ≡ Error.OutOfMemory) }
+    ensures only { OnlyOutOfMemory result }
 {
     let tested = binary_table(lhs.values(), rhs.values(), table)?;
     let validity = lhs.optional_validity().both(rhs.optional_validity())?;
@@ -154,7 +155,7 @@ pub fn eq(lhs: &BooleanArray, rhs: &BooleanArray) -> Result<BooleanArray>
         ≡ zip2 (of_both bool_eq) (boolean_items lhs.now) (boolean_items rhs.now)) }
     ensures bitmap { IfOk result (λ a.
         IsNone a.validity.bitmap ↔ (IsNone lhs.now.validity.bitmap × IsNone rhs.now.validity.bitmap)) }
-    ensures only { IfErr result (λ e. e ≡ Error.OutOfMemory) }
+    ensures only { OnlyOutOfMemory result }
 {
     compare_pairs(lhs, rhs, EQ)
 }
@@ -171,7 +172,7 @@ pub fn neq(lhs: &BooleanArray, rhs: &BooleanArray) -> Result<BooleanArray>
         ≡ zip2 (of_both (λ left right. not (bool_eq left right))) (boolean_items lhs.now) (boolean_items rhs.now)) }
     ensures bitmap { IfOk result (λ a.
         IsNone a.validity.bitmap ↔ (IsNone lhs.now.validity.bitmap × IsNone rhs.now.validity.bitmap)) }
-    ensures only { IfErr result (λ e. e ≡ Error.OutOfMemory) }
+    ensures only { OnlyOutOfMemory result }
 {
     compare_pairs(lhs, rhs, NEQ)
 }
@@ -188,7 +189,7 @@ pub fn lt(lhs: &BooleanArray, rhs: &BooleanArray) -> Result<BooleanArray>
         ≡ zip2 (of_both bool_lt) (boolean_items lhs.now) (boolean_items rhs.now)) }
     ensures bitmap { IfOk result (λ a.
         IsNone a.validity.bitmap ↔ (IsNone lhs.now.validity.bitmap × IsNone rhs.now.validity.bitmap)) }
-    ensures only { IfErr result (λ e. e ≡ Error.OutOfMemory) }
+    ensures only { OnlyOutOfMemory result }
 {
     compare_pairs(lhs, rhs, LT)
 }
@@ -205,7 +206,7 @@ pub fn lt_eq(lhs: &BooleanArray, rhs: &BooleanArray) -> Result<BooleanArray>
         ≡ zip2 (of_both bool_le) (boolean_items lhs.now) (boolean_items rhs.now)) }
     ensures bitmap { IfOk result (λ a.
         IsNone a.validity.bitmap ↔ (IsNone lhs.now.validity.bitmap × IsNone rhs.now.validity.bitmap)) }
-    ensures only { IfErr result (λ e. e ≡ Error.OutOfMemory) }
+    ensures only { OnlyOutOfMemory result }
 {
     compare_pairs(lhs, rhs, LT_EQ)
 }
@@ -222,7 +223,7 @@ pub fn gt(lhs: &BooleanArray, rhs: &BooleanArray) -> Result<BooleanArray>
         ≡ zip2 (of_both (λ left right. bool_lt right left)) (boolean_items lhs.now) (boolean_items rhs.now)) }
     ensures bitmap { IfOk result (λ a.
         IsNone a.validity.bitmap ↔ (IsNone lhs.now.validity.bitmap × IsNone rhs.now.validity.bitmap)) }
-    ensures only { IfErr result (λ e. e ≡ Error.OutOfMemory) }
+    ensures only { OnlyOutOfMemory result }
 {
     compare_pairs(lhs, rhs, GT)
 }
@@ -239,7 +240,7 @@ pub fn gt_eq(lhs: &BooleanArray, rhs: &BooleanArray) -> Result<BooleanArray>
         ≡ zip2 (of_both (λ left right. bool_le right left)) (boolean_items lhs.now) (boolean_items rhs.now)) }
     ensures bitmap { IfOk result (λ a.
         IsNone a.validity.bitmap ↔ (IsNone lhs.now.validity.bitmap × IsNone rhs.now.validity.bitmap)) }
-    ensures only { IfErr result (λ e. e ≡ Error.OutOfMemory) }
+    ensures only { OnlyOutOfMemory result }
 {
     compare_pairs(lhs, rhs, GT_EQ)
 }

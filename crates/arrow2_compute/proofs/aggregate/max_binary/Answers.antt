@@ -9,6 +9,6 @@ use Rattle.arrow2_compute.proofs.aggregate.max_binary.Goals as goal
 
 pub returns : goal.returns
 returns g c =
-    let values = non_null_values (binary_items (g.A.Binary.parts c.args.array.now)) in
+    let values = non_null_values (binary_items c.args.array.now) in
     let best = option_copied c.best_item.result in
     by-comparisons values best is_ge (greatest-of_all nat_list_cmp_total values best c.best_item.ensures)

@@ -7,9 +7,9 @@ use Rattle.arrow2_compute.proofs.concatenate.concatenate_binary.Given as goal
 
 abbrev pub invariant-loop-array : goal.invariant-loop-array
 invariant-loop-array g l = record {
-  items : (g.A.Binary.growing l.joined).items ≡ binary_items (g.A.Binary.parts l.first) ++ flat_map (λ array. binary_items (g.A.Binary.parts array.now)) (take l.array-index l.others);
-  bytes : (g.A.Binary.growing l.joined).bytes ≡ slot_bytes (g.A.Binary.parts l.first) + sum_by (λ array. slot_bytes (g.A.Binary.parts array.now)) (take l.array-index l.others);
-  fits : (g.A.Binary.growing l.joined).bytes ≤ g.A.Binary.GREATEST;
-  counted : length (g.A.Binary.growing l.joined).items < 2 ^ 64;
-  data_type : (g.A.Binary.growing l.joined).data_type ≡ (g.A.Binary.parts l.first).data_type;
+  items : l.joined.items ≡ binary_items l.first ++ flat_map (λ array. binary_items array.now) (take l.array-index l.others);
+  bytes : l.joined.bytes ≡ slot_bytes l.first + sum_by (λ array. slot_bytes array.now) (take l.array-index l.others);
+  fits : l.joined.bytes ≤ g.O.Offset.MAX;
+  counted : length l.joined.items < 2 ^ 64;
+  data_type : l.joined.data_type ≡ l.first.data_type;
 }

@@ -10,19 +10,19 @@ use Rattle.arrow2_compute.proofs.filter.filter_binary.Goals as goal
 pub selected_validity-requires : goal.selected_validity-requires
 selected_validity-requires g c =
     let read = c.optional_validity.ensures in
-    record { same_length = mask-slots (g.A.Binary.parts c.args.array.now) _ _ c.requires.same_length read.value read.slots ∙ sym read.slots }
+    record { same_length = mask-slots c.args.array.now _ _ c.requires.same_length read.value read.slots ∙ sym read.slots }
 
 pub selected_slots-requires : goal.selected_slots-requires
 selected_slots-requires g c =
     let read = c.optional_validity.ensures in
-    record { same_length = mask-known (g.A.Binary.parts c.args.array.now) _ _ c.requires.same_length read.value read.slots _ c.in_ok-without_validity.ensures.value }
+    record { same_length = mask-known c.args.array.now _ _ c.requires.same_length read.value read.slots _ c.in_ok-without_validity.ensures.value }
 
 pub with_validity-requires : goal.with_validity-requires
 with_validity-requires g c =
     let read = c.optional_validity.ensures in
     let also = c.optional_validity-2.ensures in
     let valid = c.in_ok-validity.ensures in
-    let kept = filtered (g.A.Binary.parts c.args.array.now) _ (g.A.Binary.parts c.in_ok-kept.kept) _ _ _ _ c.requires.same_length read.value read.slots c.in_ok-without_validity.ensures.value c.in_ok-kept.ensures.items also.value also.slots valid.items valid.len in
+    let kept = filtered c.args.array.now _ c.in_ok-kept.kept _ _ _ _ c.requires.same_length read.value read.slots c.in_ok-without_validity.ensures.value c.in_ok-kept.ensures.items also.value also.slots valid.items valid.len in
     record { same_length = bits-kept _ _ _ _ kept _ c.into_null_bitmap.ensures.items }
 
 pub returns-clause-items : goal.returns-clause-items
@@ -30,7 +30,7 @@ returns-clause-items g c =
     let read = c.optional_validity.ensures in
     let also = c.optional_validity-2.ensures in
     let valid = c.in_ok-validity.ensures in
-    let kept = filtered (g.A.Binary.parts c.args.array.now) _ (g.A.Binary.parts c.in_ok-kept.kept) _ _ _ _ c.requires.same_length read.value read.slots c.in_ok-without_validity.ensures.value c.in_ok-kept.ensures.items also.value also.slots valid.items valid.len in
+    let kept = filtered c.args.array.now _ c.in_ok-kept.kept _ _ _ _ c.requires.same_length read.value read.slots c.in_ok-without_validity.ensures.value c.in_ok-kept.ensures.items also.value also.slots valid.items valid.len in
     ap binary_items c.with_validity.ensures ∙ items-kept _ _ _ _ kept _ c.into_null_bitmap.ensures.items
 
 pub returns-clause-compact : goal.returns-clause-compact
@@ -39,7 +39,7 @@ returns-clause-compact g c =
     let also = c.optional_validity-2.ensures in
     let valid = c.in_ok-validity.ensures in
     let null = c.into_null_bitmap.ensures in
-    let kept = filtered (g.A.Binary.parts c.args.array.now) _ (g.A.Binary.parts c.in_ok-kept.kept) _ _ _ _ c.requires.same_length read.value read.slots c.in_ok-without_validity.ensures.value c.in_ok-kept.ensures.items also.value also.slots valid.items valid.len in
+    let kept = filtered c.args.array.now _ c.in_ok-kept.kept _ _ _ _ c.requires.same_length read.value read.slots c.in_ok-without_validity.ensures.value c.in_ok-kept.ensures.items also.value also.slots valid.items valid.len in
     subst (λ p. IsCompact p) (sym c.with_validity.ensures) (compact-kept _ _ _ _ kept _ null.items valid.packed null.value null.none c.in_ok-kept.ensures.compact)
 
 pub returns-clause-bytes : goal.returns-clause-bytes

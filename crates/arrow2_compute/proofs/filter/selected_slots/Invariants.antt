@@ -10,11 +10,11 @@ use Rattle.arrow2_compute.proofs.filter.selected_slots.Given as goal
 
 abbrev pub invariant-loop-start : goal.invariant-loop-start
 invariant-loop-start g l =
-    let items = binary_items (g.A.Binary.parts l.array) in
-    let lengths = lengths_of (buffer_items (g.A.Binary.parts l.array).offsets) in
+    let items = binary_items l.array in
+    let lengths = lengths_of (buffer_items l.array.offsets) in
     record {
       inside : All (λ run. run.0 + run.1 ≤ length items) l.start-iterator.runs;
-      done : (g.A.Binary.growing l.kept).items ++ flat_map (λ run. part items run.0 run.1) l.start-iterator.runs ≡ flat_map (λ run. part items run.0 run.1) (runs (items_of l.mask));
-      bytes : (g.A.Binary.growing l.kept).bytes + sum (flat_map (λ run. part lengths run.0 run.1) l.start-iterator.runs) ≡ sum (flat_map (λ run. part lengths run.0 run.1) (runs (items_of l.mask)));
-      data_type : (g.A.Binary.growing l.kept).data_type ≡ (g.A.Binary.parts l.array).data_type;
+      done : l.kept.items ++ flat_map (λ run. part items run.0 run.1) l.start-iterator.runs ≡ flat_map (λ run. part items run.0 run.1) (runs (items_of l.mask));
+      bytes : l.kept.bytes + sum (flat_map (λ run. part lengths run.0 run.1) l.start-iterator.runs) ≡ sum (flat_map (λ run. part lengths run.0 run.1) (runs (items_of l.mask)));
+      data_type : l.kept.data_type ≡ l.array.data_type;
     }

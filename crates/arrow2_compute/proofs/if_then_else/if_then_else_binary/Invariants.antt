@@ -8,8 +8,8 @@ use Rattle.arrow2_compute.proofs.if_then_else.if_then_else_binary.Given as goal
 
 abbrev pub invariant-loop-position : goal.invariant-loop-position
 invariant-loop-position g l = record {
-  items : (g.A.Binary.growing l.items).items ≡ choice (take l.position (items_of l.mask)) (take l.position (binary_items (g.A.Binary.parts l.lhs))) (take l.position (binary_items (g.A.Binary.parts l.rhs)));
-  bytes : (g.A.Binary.growing l.items).bytes ≡ sum_by item_bytes (g.A.Binary.growing l.items).items;
-  fits : (g.A.Binary.growing l.items).bytes ≤ g.A.Binary.GREATEST;
-  data_type : (g.A.Binary.growing l.items).data_type ≡ (g.A.Binary.parts l.lhs).data_type;
+  items : l.items.items ≡ choice (take l.position (items_of l.mask)) (take l.position (binary_items l.lhs)) (take l.position (binary_items l.rhs));
+  bytes : l.items.bytes ≡ sum_by item_bytes l.items.items;
+  fits : l.items.bytes ≤ g.O.Offset.MAX;
+  data_type : l.items.data_type ≡ l.lhs.data_type;
 }

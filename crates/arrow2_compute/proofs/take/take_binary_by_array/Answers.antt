@@ -12,10 +12,10 @@ use Rattle.arrow2_compute.proofs.take.take_binary_by_array.Goals as goal
 -- what overflows is no more than all items
 pub returns-in_err-push_item_or_null-clause-overflow : goal.returns-in_err-push_item_or_null-clause-overflow
 returns-in_err-push_item_or_null-clause-overflow g c =
-    let items = item_at g.I.Number.value (binary_items (g.A.Binary.parts c.args.array.now)) in
+    let items = item_at g.I.Number.value (binary_items c.args.array.now) in
     let indices = primitive_items c.args.indices.now in
     let position = c.loop-position.position in
-    let taken = g.A.Binary.growing c.loop-position.taken in
+    let taken = c.loop-position.taken in
     let less : position < length indices = omega (arith, c.loop-position-test.true, c.len-position-end.ensures.items) in
     let few : length taken.items ≡ length (take position indices) = ap length c.loop-position.invariant.items ∙ length-map (take position indices) items in
     let counted : length taken.items + 1 < 2 ^ 64 = omega (arith, few, length-take position indices, less, c.len-position-end.ensures.items) in

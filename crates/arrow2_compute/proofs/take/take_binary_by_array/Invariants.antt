@@ -8,8 +8,8 @@ use Rattle.arrow2_compute.proofs.take.take_binary_by_array.Given as goal
 
 abbrev pub invariant-loop-position : goal.invariant-loop-position
 invariant-loop-position g l = record {
-  items : (g.A.Binary.growing l.taken).items ≡ map (item_at g.I.Number.value (binary_items (g.A.Binary.parts l.array))) (take l.position (primitive_items l.indices));
-  bytes : (g.A.Binary.growing l.taken).bytes ≡ sum_by item_bytes (g.A.Binary.growing l.taken).items;
-  fits : (g.A.Binary.growing l.taken).bytes ≤ g.A.Binary.GREATEST;
-  data_type : (g.A.Binary.growing l.taken).data_type ≡ (g.A.Binary.parts l.array).data_type;
+  items : l.taken.items ≡ map (item_at g.I.Number.value (binary_items l.array)) (take l.position (primitive_items l.indices));
+  bytes : l.taken.bytes ≡ sum_by item_bytes l.taken.items;
+  fits : l.taken.bytes ≤ g.O.Offset.MAX;
+  data_type : l.taken.data_type ≡ l.array.data_type;
 }

@@ -8,5 +8,5 @@ invariant-loop-item g l =
     let items = map g.S.AsItem.item (take l.item-index l.items) in
     record {
       grown : GrownBySlots l.fn.self l.self (values_of_items items) (map is_some items) (bytes_of_items items);
-      known : All (λ item. IfSome (g.S.AsItem.item item) g.S.AsItem.Known) (take l.item-index l.items);
+      known : All (λ item. IfSome (g.S.AsItem.item item) g.T.ByteArrayType.IsValue) (take l.item-index l.items);
     }

@@ -5,10 +5,10 @@ use Rattle.arrow2_compute.proofs.comparison.binary.fn.compare_each.try_from_fn.G
 
 pub test-requires : goal.test-requires
 test-requires g c =
-    let values = binary_values (g.A.Binary.parts c.captures.array.now) in
-    c.requires.callable c.args.index _ c.requires.below.1 (get_or_default values c.args.index c.value.result.now [] c.requires.below.1 ∙ sym c.value.ensures)
+    let values = binary_values c.captures.array.now in
+    c.requires.callable c.args.index _ c.requires.below.1 (get_or_default values c.args.index c.value_bytes.result.now [] c.requires.below.1 ∙ sym c.value_bytes.ensures.value)
 
 pub returns : goal.returns
 returns g c =
-    let values = binary_values (g.A.Binary.parts c.captures.array.now) in
-    record { item = _; is_item = get_or_default values c.args.index c.value.result.now [] c.requires.below.1 ∙ sym c.value.ensures; returned = c.test.ensures }
+    let values = binary_values c.captures.array.now in
+    record { item = _; is_item = get_or_default values c.args.index c.value_bytes.result.now [] c.requires.below.1 ∙ sym c.value_bytes.ensures.value; returned = c.test.ensures }
