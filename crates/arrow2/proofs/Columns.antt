@@ -1,8 +1,6 @@
 -- Lemmas on values with their validity, for a column of one's own, and on items that a mask selects; and the rulesets
 -- that a caller names in `using`.
-use Rattle.std.proofs.Common.{◌≡◌, ℕ, ◌<◌, List, Bool, true, false, not, length, get_or, refl, ap, sym, ◌∙◌, arith}
-use Rattle.std.specs.Prelude.{Option, None}
-use Rattle.std.specs.Option.{is_none}
+use Rattle.std.proofs.Common.{◌≡◌, ℕ, ◌<◌, List, Bool, true, false, not, length, get_or, refl, ap, sym, ◌∙◌, arith, Option, None, is_none}
 use Rattle.arrow2_walks.specs.Zipped.{slot, zipped}
 pub use Rattle.arrow2_walks.proofs.Selections.{selected-more, chosen-more, selected-more_of, chosen-more_of, length-selected, count-selected, selected-runs, non_null_values-append, non_null_values-more, non_null_values-zipped, selections}
 pub use Rattle.arrow2_walks.proofs.Zipped.{length-zipped, at-zipped, item-zipped, part-zipped, append-zipped, push-zipped, slot-option, nulls-zipped, columns}

@@ -2,7 +2,7 @@
 //! values, data types and errors. This crate only re-exports other crates, at the paths that arrow2 has.
 //!
 //! The definitions that contracts cite are re-exported too, so that a caller's clauses can name
-//! `Rattle.arrow2.specs.Parts` and the other modules of `Rattle.arrow2.specs`.
+//! `Rattle.arrow2.specs.Lists` and the other modules of `Rattle.arrow2.specs`.
 //!
 //! # Examples
 //!

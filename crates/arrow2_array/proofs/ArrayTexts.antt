@@ -1,7 +1,5 @@
 -- The text of a boolean array, item by item.
-use Rattle.std.proofs.Common.{◌≡◌, ◌∙◌, ℕ, zero, suc, ◌<◌, List, [], ◌∷◌, ◌++◌, length, take, get_or, Bool, Option, None, ap, sym, refl, arith, append_assoc, append-nil}
-use Rattle.std.specs.Prelude.{codes}
-use Rattle.std.specs.List.{flat_map}
+use Rattle.std.proofs.Common.{◌≡◌, ◌∙◌, ℕ, zero, suc, ◌<◌, List, [], ◌∷◌, ◌++◌, length, take, get_or, Bool, Option, None, ap, sym, refl, arith, append_assoc, append-nil, codes, flat_map}
 use Rattle.arrow2_array.specs.ArrayTexts.{item_word, comma_list}
 
 -- the word for an item after another one

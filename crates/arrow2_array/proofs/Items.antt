@@ -1,10 +1,9 @@
 -- The lemmas on boolean arrays, shared ones and ones that grow.
-use Rattle.std.proofs.Common.{◌≡◌, ◌∙◌, ℕ, zero, suc, ◌<◌, List, [], ◌∷◌, ◌++◌, Bool, true, false, length, get_or, map, replicate, refl, ap, sym, arith}
-use Rattle.std.specs.Prelude.{Option, Some, None, MatchOption, is_some, unwrap_or, slice_get}
+use Rattle.std.proofs.Common.{◌≡◌, ◌∙◌, ℕ, zero, suc, ◌<◌, List, [], ◌∷◌, ◌++◌, Bool, true, false, length, get_or, map, replicate, refl, ap, sym, arith, Option, Some, None, MatchOption, is_some, unwrap_or, slice_get}
 use Rattle.std.specs.Bool.{then_some}
 use Rattle.std.proofs.lemmas.List.{length-replicate, length-map}
 use Rattle.std.proofs.Math.Nat.{min-le_left, min-le_right, le-min}
-use Rattle.arrow2_model.specs.Storage.{BitmapStorage, items_of}
+use Rattle.arrow2_model.specs.Lists.{BitmapStorage, items_of}
 use Rattle.arrow2_model.proofs.Counts.{falses-all_true}
 use Rattle.arrow2_model.proofs.Parts.{part-part, length-part}
 use Rattle.arrow2_walks.specs.Zipped.{slot, zipped}

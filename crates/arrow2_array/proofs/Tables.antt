@@ -1,8 +1,7 @@
 -- Kleene's logic by truth tables over values and validities.
-use Rattle.std.proofs.Common.{◌≡◌, ℕ, zero, suc, ◌<◌, List, [], ◌∷◌, Bool, true, false, length, get_or, replicate, refl, ap, sym, ◌∙◌, arith}
-use Rattle.std.specs.Prelude.{Option, None}
+use Rattle.std.proofs.Common.{◌≡◌, ℕ, zero, suc, ◌<◌, List, [], ◌∷◌, Bool, true, false, length, get_or, replicate, refl, ap, sym, ◌∙◌, arith, Option, None}
 use Rattle.std.proofs.lemmas.List.{ext_get_or, length-replicate, get_or-replicate}
-use Rattle.arrow2_model.specs.Bits.{bit}
+use Rattle.arrow2_model.specs.Lists.{bit}
 use Rattle.arrow2_model.specs.Tables.{answer, each}
 use Rattle.arrow2_walks.specs.Zipped.{slot, zipped}
 use Rattle.arrow2_model.proofs.Kernels.{length-each, get_or-each, each_from}

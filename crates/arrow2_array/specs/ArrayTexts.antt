@@ -1,6 +1,5 @@
 -- The text of a boolean array.
-use Rattle.std.specs.Prelude.{ℕ, List, [], ◌∷◌, ◌++◌, Bool, true, false, Option, Some, None, codes}
-use Rattle.std.specs.List.{flat_map}
+use Rattle.std.specs.Prelude.{ℕ, List, [], ◌∷◌, ◌++◌, Bool, true, false, Option, Some, None, codes, flat_map}
 
 -- the word for an item
 abbrev pub item_word : Option Bool → List ℕ

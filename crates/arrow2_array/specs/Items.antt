@@ -1,7 +1,6 @@
 -- The models of boolean arrays.
-use Rattle.std.specs.Prelude.{ℕ, List, Bool, Option, count_by}
-use Rattle.std.specs.Option.{is_none}
-use Rattle.arrow2_model.specs.Storage.{BitmapStorage, items_of}
+use Rattle.std.specs.Prelude.{ℕ, List, Bool, Option, count_by, is_none}
+use Rattle.arrow2_model.specs.Lists.{BitmapStorage, items_of}
 use Rattle.arrow2_walks.specs.Zipped.{zipped}
 use Rattle.arrow2_validity.specs.OptionalValidity.{OptionalValidity, valid_items, sliced_bitmap, sliced_validity}
 

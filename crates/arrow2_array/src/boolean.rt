@@ -1,13 +1,11 @@
 //! An array of nullable booleans.
-ghost use Rattle.std.specs.Prelude.{◌≡◌, ◌+◌, ◌≤◌, ◌<◌, ◌↔◌, [], ◌∷◌, Bool, Option, Some, None, length, map, slice_index_or, option_map, OnOk, IsOk, IsNone, IfOk, IfSome, IsTrue, MatchOption};
+ghost use Rattle.std.specs.Prelude.{◌≡◌, ◌+◌, ◌≤◌, ◌<◌, ◌↔◌, [], ◌∷◌, Bool, Option, Some, None, length, map, slice_index_or, option_map, OnOk, IsOk, IsNone, IfOk, IfSome, IsTrue, MatchOption, slice_get};
 ghost use Rattle.std.specs.Bool.{beq};
 ghost use Rattle.std.specs.Cmp.{partial_equiv_from_equiv, bool_eq_equiv, on_equiv};
 ghost use Rattle.std.specs.Cmp.Lexicographic.{pointwise, lists_equiv, options_equiv};
-ghost use Rattle.std.specs.List.{slice_get};
 ghost use Rattle.std.specs.Option.{ForSome, is_some, is_none, option_eq};
 ghost use Rattle.std.specs.Ordering.{on};
-ghost use Rattle.arrow2_model.specs.Parts.{part};
-ghost use Rattle.arrow2_model.specs.Storage.{items_of};
+ghost use Rattle.arrow2_model.specs.Lists.{part, items_of};
 ghost use Rattle.arrow2_model.specs.Tables.{each};
 ghost use Rattle.arrow2_bitmap.specs.PackedBitmaps.{IsPacked};
 ghost use Rattle.arrow2_walks.specs.Selections.{non_null_values};
@@ -57,7 +55,7 @@ pub struct BooleanArray {
 
 impl Model for BooleanArray {
     ghost use Rattle.std.specs.Prelude.{◌≡◌, length};
-    ghost use Rattle.arrow2_model.specs.Storage.{items_of};
+    ghost use Rattle.arrow2_model.specs.Lists.{items_of};
     ghost use Rattle.arrow2_validity.specs.OptionalValidity.{valid_items};
     ghost use Rattle.arrow2_array.specs.Items.{BooleanParts};
 

@@ -1,6 +1,6 @@
 //! Boolean arrays, as iterators read them.
 ghost use Rattle.std.specs.Prelude.{None, Some, refl};
-ghost use Rattle.arrow2_model.specs.Storage.{items_of};
+ghost use Rattle.arrow2_model.specs.Lists.{items_of};
 ghost use Rattle.arrow2_array.specs.Items.{boolean_items};
 
 use crate::boolean::BooleanArray;

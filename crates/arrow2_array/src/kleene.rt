@@ -1,8 +1,7 @@
 //! Truth tables of Kleene's `and` and `or`. For each operator, one table gives the value of the result, and two others
 //! give whether the result is not null.
 ghost use Rattle.std.specs.Prelude.{◌≡◌, ◌<◌, ◌↔◌, ℕ, [], ◌∷◌, length, Some, IsNone, IfOk, IfSome};
-ghost use Rattle.arrow2_model.specs.Bits.{bit};
-ghost use Rattle.arrow2_model.specs.Storage.{items_of};
+ghost use Rattle.arrow2_model.specs.Lists.{bit, items_of};
 ghost use Rattle.arrow2_model.specs.Tables.{answer, each};
 ghost use Rattle.arrow2_validity.specs.OptionalValidity.{valid_items};
 ghost use Rattle.arrow2_array.specs.Kleene.{AgreesWhereOneIsValid};

@@ -1,7 +1,6 @@
 -- The bytes of bitmaps that grow determine their items.
 use Rattle.std.proofs.Common.{◌≡◌, ◌↔◌, List, Bool, length, ap, ◌∙◌, sym}
-use Rattle.arrow2_model.specs.Canonical.{canonical_bytes}
-use Rattle.arrow2_model.specs.Storage.{BitmapStorage, items_of}
+use Rattle.arrow2_model.specs.Lists.{canonical_bytes, BitmapStorage, items_of}
 use Rattle.arrow2_model.proofs.Canonical.{same_from_canonical_bytes, items-canonical_bytes}
 
 pub same_bytes : (xs ys : List Bool) → length xs ≡ length ys → (xs ≡ ys) ↔ (canonical_bytes xs ≡ canonical_bytes ys)

@@ -1,9 +1,8 @@
 -- Lists whose items are all alike, under the tables of the operators.
 use Rattle.std.proofs.Common.{◌≡◌, inl, inr, ◌⊎◌, ℕ, ◌+◌, ◌<◌, ◌&&◌, ◌||◌, not, List, [], ◌∷◌, Bool, true, false, length, get_or, replicate, refl, ap, sym, ◌∙◌, arith}
-use mathlib.Core.Bool.{xor}
-use Rattle.std.specs.Bool.{beq}
+use mathlib.Core.Bool.{xor, beq}
 use Rattle.std.proofs.lemmas.List.{length-replicate, get_or-replicate}
-use Rattle.arrow2_model.specs.Parts.{falses}
+use Rattle.arrow2_model.specs.Lists.{falses}
 use Rattle.arrow2_model.specs.Tables.{each}
 use Rattle.arrow2_model.proofs.Kernels.{each_from}
 use Rattle.arrow2_model.proofs.Tables.{answer-and, answer-or, answer-xor}

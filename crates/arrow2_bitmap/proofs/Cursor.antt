@@ -1,7 +1,7 @@
 -- Steps of an iterator over the items of a bitmap, from both ends.
 use Rattle.std.proofs.Common.{◌≡◌, ℕ, suc, ◌+◌, ◌-◌, ◌<◌, ◌≤◌, List, [], ◌∷◌, ◌++◌, Bool, false, take, length, get_or, ap, ◌∙◌, arith}
 use Rattle.std.proofs.lemmas.List.{drop_more, take_all}
-use Rattle.arrow2_model.specs.Parts.{part}
+use Rattle.arrow2_model.specs.Lists.{part}
 use Rattle.arrow2_model.proofs.Parts.{length-part, part_more}
 use Rattle.arrow2_model.proofs.Cursors.{part_none}
 

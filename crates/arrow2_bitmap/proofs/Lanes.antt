@@ -1,7 +1,6 @@
 -- The items of a bitmap that begin at a whole byte are the first bits of its bytes.
 use Rattle.std.proofs.Common.{◌≡◌, ◌∙◌, ℕ, ◌+◌, ◌*◌, ◌≤◌, List, Bool, take, length, ap, sym, arith}
-use Rattle.arrow2_model.specs.Bits.{bits}
-use Rattle.arrow2_model.specs.Parts.{part}
+use Rattle.arrow2_model.specs.Lists.{bits, part}
 use Rattle.arrow2_model.proofs.Bits.{length-bits}
 use Rattle.arrow2_model.proofs.Parts.{length-part}
 

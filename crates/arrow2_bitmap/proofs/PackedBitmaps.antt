@@ -2,9 +2,7 @@
 use Rattle.std.proofs.Common.{◌≡◌, ◌∙◌, ℕ, ◌+◌, ◌*◌, ◌/◌, List, Bool, false, length, take, replicate, get_or, ap, sym, inl, inr, arith}
 use Rattle.std.proofs.lemmas.Bool.{cases_lt}
 use Rattle.std.proofs.lemmas.List.{length-replicate, get_or-replicate, get_or_past}
-use Rattle.arrow2_model.specs.Bits.{bits}
-use Rattle.arrow2_model.specs.Canonical.{canonical_bytes, IsCanonical}
-use Rattle.arrow2_model.specs.Storage.{BitmapStorage, items_of}
+use Rattle.arrow2_model.specs.Lists.{bits, canonical_bytes, IsCanonical, BitmapStorage, items_of}
 use Rattle.arrow2_model.proofs.Bytes.{bits-zeros}
 use Rattle.arrow2_model.proofs.Canonical.{canonical_is}
 use Rattle.arrow2_packed_bits.proofs.Buffer.{length_items, copies_fit}

@@ -1,11 +1,10 @@
 -- The result of `==` of bitmaps.
-use Rattle.std.proofs.Common.{◌≡◌, ◌↔◌, ℕ, List, Bool, length, ap, sym, ◌∙◌}
+use Rattle.std.proofs.Common.{◌≡◌, ◌↔◌, ℕ, List, Bool, length, ap, sym, ◌∙◌, nat_eq}
 use Rattle.std.specs.Bool.{beq, IsTrue}
-use Rattle.std.specs.Prelude.{nat_eq}
 use Rattle.std.specs.Cmp.Lexicographic.{pointwise}
 use Rattle.std.proofs.lemmas.Bool.Decides.{same_from_decides, Decides-eqb}
 use Rattle.std.proofs.lemmas.Slice.Eq.{slice_eq-Decides}
-use Rattle.arrow2_model.specs.Canonical.{canonical_bytes}
+use Rattle.arrow2_model.specs.Lists.{canonical_bytes}
 use Rattle.arrow2_model.proofs.Canonical.{same_from_canonical_bytes}
 use Rattle.arrow2_model.proofs.Same.{pointwise-same}
 

@@ -1,7 +1,6 @@
 -- Bitmaps that are stored in their canonical bytes, from bit 0 on.
 use Rattle.std.specs.Prelude.{◌≡◌, List, Bool, length}
-use Rattle.arrow2_model.specs.Canonical.{canonical_bytes}
-use Rattle.arrow2_model.specs.Storage.{BitmapStorage, items_of}
+use Rattle.arrow2_model.specs.Lists.{canonical_bytes, BitmapStorage, items_of}
 
 -- items in their canonical bytes, from bit 0 on: no byte is spare, and no bit after the last item is set
 abbrev pub packed_storage : List Bool → BitmapStorage

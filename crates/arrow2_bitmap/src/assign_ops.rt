@@ -1,9 +1,9 @@
 //! Bitmaps that grow, changed in place by word functions and truth tables, and their operators. None of these calls
 //! allocates.
 ghost use Rattle.std.specs.Prelude.{◌≡◌, ℕ, [], ◌∷◌, length};
-ghost use Rattle.arrow2_model.specs.Kernels.{word, unary_kernel, binary_kernel, ComputesUnary, ComputesBinary};
+ghost use Rattle.arrow2_model.specs.Lists.{word, items_of};
+ghost use Rattle.arrow2_model.specs.Kernels.{unary_kernel, binary_kernel, ComputesUnary, ComputesBinary};
 ghost use Rattle.arrow2_kernels.specs.WordResults.{AreJoinedResults, MayReturnUnary, MayReturnBinary};
-ghost use Rattle.arrow2_model.specs.Storage.{items_of};
 ghost use Rattle.arrow2_model.specs.Tables.{each, IsBitwiseUnary, IsBitwiseBinary};
 
 use crate::bitmap_ops::are_all;

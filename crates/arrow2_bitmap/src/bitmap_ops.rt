@@ -1,7 +1,7 @@
 //! New bitmaps from word functions and truth tables, and the operators on shared bitmaps.
 ghost use Rattle.std.specs.Prelude.{◌≡◌, ℕ, List, Bool, [], ◌∷◌, length, replicate, IfOk, IfSome, IsTrue, MatchResult, ◌⊎◌};
 ghost use Rattle.arrow2_model.specs.Kernels.{bits_of_words, kernel, unary_kernel, binary_kernel, ComputesUnary, ComputesBinary};
-ghost use Rattle.arrow2_model.specs.Storage.{bitmap_word, items_of};
+ghost use Rattle.arrow2_model.specs.Lists.{bitmap_word, items_of};
 ghost use Rattle.arrow2_model.specs.Tables.{each, IsBitwiseUnary, IsBitwiseBinary};
 ghost use Rattle.arrow2_types.specs.declared.error.Error.TheVariants.{OutOfMemory};
 ghost use Rattle.arrow2_kernels.specs.WordResults.{AreJoinedResults, MayReturnRow};

@@ -2,7 +2,7 @@
 ghost use Rattle.std.specs.Prelude.{◌≡◌, Some, length, IfSome};
 ghost use Rattle.std.specs.Iterator.{YieldsFirst, YieldsLast, item_count, UpTo};
 ghost use Rattle.std.specs.Iterator.SizeHint.{IsWithinCount};
-ghost use Rattle.arrow2_model.specs.Storage.{items_of};
+ghost use Rattle.arrow2_model.specs.Lists.{items_of};
 
 use crate::immutable::Bitmap;
 use std::alloc::AllocError;
@@ -21,8 +21,7 @@ pub struct IntoIter {
 
 impl Model for IntoIter {
     ghost use Rattle.std.specs.Prelude.{◌≡◌, ◌-◌, ◌≤◌, List, Bool, length};
-    ghost use Rattle.arrow2_model.specs.Parts.{part};
-    ghost use Rattle.arrow2_model.specs.Storage.{items_of};
+    ghost use Rattle.arrow2_model.specs.Lists.{part, items_of};
 
     ghost Value = { List Bool };
 

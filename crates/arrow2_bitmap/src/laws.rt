@@ -1,9 +1,8 @@
 //! Laws of bitmaps that grow: of their bytes, and of appended items. Each is the contract of a function with
 //! an empty body.
 ghost use Rattle.std.specs.Prelude.{◌≡◌, ◌↔◌, ◌++◌, ℕ, List, Bool, length, take, drop};
-ghost use Rattle.arrow2_model.specs.Canonical.{canonical_bytes};
+ghost use Rattle.arrow2_model.specs.Lists.{canonical_bytes, BitmapStorage, GrowingBitmap, items_of};
 ghost use Rattle.arrow2_bitmap.specs.PackedBitmaps.{packed_storage};
-ghost use Rattle.arrow2_model.specs.Storage.{BitmapStorage, GrowingBitmap, items_of};
 
 /// Two bitmaps that grow, of equal length, have equal items exactly if their canonical bytes are equal.
 #[tactic(auto, using(crate::proofs::Bytes::canonical))]

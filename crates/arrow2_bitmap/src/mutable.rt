@@ -6,12 +6,9 @@ ghost use Rattle.std.specs.Bool.{beq};
 ghost use Rattle.std.specs.Ordering.{on};
 ghost use Rattle.std.specs.Cmp.{partial_equiv_from_equiv, bool_eq_equiv, on_equiv};
 ghost use Rattle.std.specs.Cmp.Lexicographic.{pointwise, lists_equiv};
-ghost use Rattle.arrow2_model.specs.Bits.{bits};
-ghost use Rattle.arrow2_model.specs.Parts.{falses, part};
-ghost use Rattle.arrow2_model.specs.Canonical.{canonical_bytes};
+ghost use Rattle.arrow2_model.specs.Lists.{bits, falses, part, canonical_bytes, GrowingBitmap, items_of};
 ghost use Rattle.arrow2_bitmap.specs.PackedBitmaps.{packed_storage};
 ghost use Rattle.arrow2_model.specs.Shown.{shown};
-ghost use Rattle.arrow2_model.specs.Storage.{GrowingBitmap, items_of};
 ghost use Rattle.arrow2_model.specs.Tables.{each};
 ghost use Rattle.arrow2_types.specs.Failures.{FailsOnlyWith, error_of, OnlyOutOfMemory, OnlyOverflowOrOutOfMemory};
 ghost use Rattle.arrow2_packed_bits.specs.Growth.{Appends};
@@ -53,7 +50,7 @@ pub struct MutableBitmap {
 }
 
 impl Model for MutableBitmap {
-    ghost use Rattle.arrow2_model.specs.Storage.{GrowingBitmap};
+    ghost use Rattle.arrow2_model.specs.Lists.{GrowingBitmap};
 
     ghost Value = { GrowingBitmap };
 

@@ -1,14 +1,11 @@
 -- Four lanes of 64 bits, made of 32 bytes, and the number of bits of their bytes that are not set.
-use Rattle.std.proofs.Common.{◌≡◌, ℕ, ◌+◌, ◌*◌, ◌^◌, ◌<◌, List, [], ◌∷◌, length, get_or, refl, ap, sym, ◌∙◌, inl, inr, arith}
-use mir.Syntax.{w8}
-use mir.Val.{Fits}
+use Rattle.std.proofs.Common.{◌≡◌, ℕ, ◌+◌, ◌*◌, ◌^◌, ◌<◌, List, [], ◌∷◌, length, get_or, refl, ap, sym, ◌∙◌, inl, inr, arith, w8, Fits}
 use lib.Lanes.{number_l, digits_l, chunk, Each1}
 use Rattle.std.proofs.lemmas.Simd.{get_or_wider, Each1-get_or, below_from_Fits, length-chunk, get_or-chunk}
 use Rattle.std.proofs.lemmas.Bool.{cases_lt}
 use Rattle.std.proofs.lemmas.List.{get_or_past}
-use Rattle.arrow2_model.specs.Bits.{bits, unnum}
+use Rattle.arrow2_model.specs.Lists.{bits, unnum, part, falses}
 use Rattle.arrow2_model.specs.Digits.{digits_number}
-use Rattle.arrow2_model.specs.Parts.{part, falses}
 use Rattle.arrow2_model.proofs.Bits.{length-bits}
 use Rattle.arrow2_model.proofs.Bytes.{part-bits}
 use Rattle.arrow2_model.proofs.Chunks.{read_bits}

@@ -2,7 +2,7 @@
 use Rattle.std.proofs.Common.{◌≡◌, ◌≤◌, ◌<◌, ◌+◌, ◌-◌, ◌/◌, ◌⊎◌, inl, inr, ℕ, Bool, true, false, nat_le, if◌then◌else◌, List, ◌++◌, length, take, drop, ap, ◌∙◌, refl, arith}
 use Rattle.std.proofs.Math.Nat.{div-eq-sub-div}
 use Rattle.std.proofs.lemmas.List.{length-append, length-drop, length-take-le, take-append-drop, nil_from_length}
-use Rattle.arrow2_model.specs.Buffers.{overwrite}
+use Rattle.arrow2_model.specs.Lists.{overwrite}
 use Rattle.arrow2_bits.specs.ChunksMut.{ChunkCursorMut, chunks_left, next_len, past}
 
 -- one chunk fewer

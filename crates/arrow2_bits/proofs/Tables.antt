@@ -1,12 +1,11 @@
 -- The tables by which a bit is written, and the two halves of a byte.
-use Rattle.std.proofs.Common.{◌≡◌, ℕ, suc, ◌+◌, ◌-◌, ◌*◌, ◌%◌, ◌^◌, ◌<◌, ◌==◌, List, [], ◌∷◌, ◌++◌, false, get_or, ap, refl, ◌∙◌, arith}
-use Rattle.std.specs.Prelude.{Bool, true, codes, ◌/◌}
+use Rattle.std.proofs.Common.{◌≡◌, ℕ, suc, ◌+◌, ◌-◌, ◌*◌, ◌%◌, ◌^◌, ◌<◌, ◌==◌, List, [], ◌∷◌, ◌++◌, false, get_or, ap, refl, ◌∙◌, arith, Bool, true, codes, ◌/◌}
 use Rattle.std.specs.Int.{bit_not, from_bool, w8}
 use Rattle.std.proofs.lemmas.List.FromFn.{get_or-map-range_with_len}
 use Rattle.std.proofs.lemmas.List.{get_or_append_left, get_or-append_right}
 use Rattle.arrow2_model.specs.Shown.{shown_byte}
 use Rattle.arrow2_bits.specs.Digits.{four_digits}
-use Rattle.arrow2_model.specs.Bits.{bit, bits}
+use Rattle.arrow2_model.specs.Lists.{bit, bits}
 use Rattle.arrow2_model.proofs.Shown.{bit_alone}
 
 abbrev kept : List ℕ

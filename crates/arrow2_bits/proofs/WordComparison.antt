@@ -1,8 +1,7 @@
 -- Comparisons by words of 64 bits.
 use Rattle.std.proofs.Common.{◌≡◌, ◌↔◌, ℕ, ◌-◌, ◌*◌, ◌/◌, ◌^◌, ◌<◌, List, [], ◌++◌, Bool, false, take, replicate, length, ap, sym, ◌∙◌, arith}
 use Rattle.std.proofs.lemmas.List.{take-append-le, length-drop, take_all, nil_from_length}
-use Rattle.arrow2_model.specs.Words.{full_words, rest}
-use Rattle.arrow2_model.specs.Bits.{unnum, num}
+use Rattle.arrow2_model.specs.Lists.{full_words, rest, unnum, num}
 use Rattle.arrow2_model.proofs.Numbers.{num-unnum}
 use Rattle.arrow2_model.proofs.Words.{items_of_words, length-full_words}
 

@@ -1,12 +1,9 @@
 -- An iterator by words over a part of the bits of bytes.
-use Rattle.std.proofs.Common.{◌≡◌, ℕ, zero, suc, ◌+◌, ◌-◌, ◌*◌, ◌/◌, ◌%◌, ◌^◌, ◌<◌, ◌≤◌, ◌==◌, List, [], ◌∷◌, Bool, false, if◌then◌else◌, take, drop, length, refl, ap, sym, ◌∙◌, arith, inl, inr}
+use Rattle.std.proofs.Common.{◌≡◌, ℕ, zero, suc, ◌+◌, ◌-◌, ◌*◌, ◌/◌, ◌%◌, ◌^◌, ◌<◌, ◌≤◌, ◌==◌, List, [], ◌∷◌, Bool, false, if◌then◌else◌, take, drop, length, refl, ap, sym, ◌∙◌, arith, inl, inr, take_all, length-take-le, length-take, get_or-take, ext_get_or, length-drop}
 use Rattle.std.proofs.Math.Nat.{div-div-eq-div-mul, div-add-mod, mod-lt, mul_assoc, mul_comm, mul-suc, mul-zero, mul-div-le, zero-mul, le-mul_of_pos_right}
 use Rattle.std.proofs.lemmas.Nat.{div-mul-add}
-use Rattle.std.proofs.lemmas.List.{take_all, length-take-le, length-take, get_or-take, ext_get_or, length-drop}
 use Rattle.std.proofs.lemmas.Bool.{cases_lt}
-use Rattle.arrow2_model.specs.Bits.{unnum, bits, num}
-use Rattle.arrow2_model.specs.Parts.{part}
-use Rattle.arrow2_model.specs.Words.{full_words, rest, spill, exact_spill}
+use Rattle.arrow2_model.specs.Lists.{unnum, bits, num, part, full_words, rest, spill, exact_spill}
 use Rattle.arrow2_model.proofs.Bits.{length-bits, length-unnum, get_or-unnum}
 use Rattle.arrow2_model.proofs.Bytes.{part-bits-part, part-bits-drop}
 use Rattle.arrow2_model.proofs.Numbers.{bit-num, num-unnum}

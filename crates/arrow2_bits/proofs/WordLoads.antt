@@ -2,8 +2,7 @@
 use Rattle.std.proofs.Common.{◌≡◌, ℕ, ◌+◌, ◌-◌, ◌*◌, ◌^◌, ◌<◌, ◌≤◌, ◌||◌, List, ◌++◌, Bool, false, take, drop, replicate, length, get_or, ap, sym, ◌∙◌, arith}
 use lib.Lanes.{zip2}
 use Rattle.std.proofs.lemmas.List.{drop-replicate, length-drop, take_all}
-use Rattle.arrow2_model.specs.Bits.{bit, unnum, bits, num}
-use Rattle.arrow2_model.specs.Parts.{part}
+use Rattle.arrow2_model.specs.Lists.{bit, unnum, bits, num, part}
 use Rattle.arrow2_model.proofs.Bits.{length-bits}
 use Rattle.arrow2_model.proofs.Bytes.{take-bits, part-bits, part-bits-drop}
 use Rattle.arrow2_bits.proofs.WordMerges.{merged, num-zeros}

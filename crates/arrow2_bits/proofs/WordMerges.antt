@@ -4,8 +4,7 @@ use lib.Lanes.{zip2}
 use Rattle.std.proofs.lemmas.Bool.{cases_lt}
 use Rattle.std.proofs.lemmas.List.{length-append, length-drop, length-take-le, length-replicate, get_or-drop, get_or-take, get_or-replicate, get_or_append_left, get_or-append_right, ext_get_or}
 use Rattle.std.proofs.lemmas.Simd.{length-zip2, get_or-zip2}
-use Rattle.arrow2_model.specs.Bits.{bits, num}
-use Rattle.arrow2_model.specs.Parts.{part}
+use Rattle.arrow2_model.specs.Lists.{bits, num, part}
 use Rattle.arrow2_model.proofs.Bits.{bits-append}
 use Rattle.arrow2_model.proofs.Bytes.{bits-zeros}
 use Rattle.arrow2_model.proofs.Numbers.{bit-num, num-part-lt, same_from_bits}

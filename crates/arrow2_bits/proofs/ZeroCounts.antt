@@ -1,9 +1,7 @@
 -- Counts of bits that are not set, from their pieces, and the bytes that they read.
-use Rattle.std.proofs.Common.{◌≡◌, ℕ, zero, suc, ◌+◌, ◌-◌, ◌*◌, ◌/◌, ◌%◌, ◌^◌, ◌<◌, ◌≤◌, List, length, get_or, refl, ap, sym, ◌∙◌, arith}
-use Rattle.std.specs.Prelude.{count_ones}
+use Rattle.std.proofs.Common.{◌≡◌, ℕ, zero, suc, ◌+◌, ◌-◌, ◌*◌, ◌/◌, ◌%◌, ◌^◌, ◌<◌, ◌≤◌, List, length, get_or, refl, ap, sym, ◌∙◌, arith, count_ones}
 use Rattle.std.proofs.lemmas.Nat.{one_shl}
-use Rattle.arrow2_model.specs.Bits.{bits}
-use Rattle.arrow2_model.specs.Parts.{part, falses}
+use Rattle.arrow2_model.specs.Lists.{bits, part, falses}
 use Rattle.arrow2_model.specs.Touched.{touched}
 use Rattle.arrow2_model.proofs.Bytes.{part-bits, part-bits-part}
 use Rattle.arrow2_model.proofs.Counts.{falses-append, falses-byte_part, falses-part_three}

@@ -2,7 +2,7 @@
 use Rattle.std.specs.Prelude.{ℕ, List, [], Option}
 use Rattle.std.specs.Borrow.{Lends, LendsIf, MutBor, Fml, Array, RattleType, u8}
 use mir.Syntax.{named}
-use Rattle.arrow2_model.specs.Buffers.{overwrite}
+use Rattle.arrow2_model.specs.Lists.{overwrite}
 use Rattle.arrow2_bits.specs.ChunksMut.{ChunkCursorMut, next_len, past}
 use Rattle.arrow2_bits.specs.contracts.chunks_exact_mut.BitChunksExactMut.{the_row}
 

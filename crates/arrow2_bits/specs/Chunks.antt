@@ -1,7 +1,6 @@
 -- The bytes that an iterator by words keeps.
 use Rattle.std.specs.Prelude.{◌≡◌, ℕ, ◌+◌, ◌*◌, ◌<◌, ◌≤◌, ◌^◌, List, take, length}
-use Rattle.arrow2_model.specs.Bits.{bits, unnum}
-use Rattle.arrow2_model.specs.Parts.{part}
+use Rattle.arrow2_model.specs.Lists.{bits, unnum, part}
 
 -- count words are still to come, from bit shift on; tail bits come after these words, and are the lowest bits of `word`
 pub record IsChunkCursor (w : ℕ) (bytes : List ℕ) (shift count tail word : ℕ) : Type 0 where

@@ -1,8 +1,7 @@
 -- The model of an iterator by chunks that are borrowed mutably.
 use Rattle.std.specs.Prelude.{◌≡◌, ℕ, ◌+◌, ◌-◌, ◌/◌, List, Option, nat_le, if◌then◌else◌, drop, length, MatchOption}
 use Rattle.std.specs.Borrow.{MutBor}
-use Rattle.arrow2_model.specs.Buffers.{overwrite}
-use Rattle.arrow2_model.specs.Parts.{part}
+use Rattle.arrow2_model.specs.Lists.{overwrite, part}
 
 -- the iterator: the bytes of its chunks, the index of the next chunk in them, the number of bytes of a chunk, the bytes
 -- of the remainder, and the number of bits of the remainder

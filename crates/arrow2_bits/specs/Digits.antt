@@ -1,6 +1,6 @@
 -- The text of four bits.
 use Rattle.std.specs.Prelude.{ℕ, List, [], ◌∷◌, true}
-use Rattle.arrow2_model.specs.Bits.{bit}
+use Rattle.arrow2_model.specs.Lists.{bit}
 use Rattle.arrow2_model.specs.Shown.{bit_character}
 
 -- the characters of the four lowest bits of a number, the highest first

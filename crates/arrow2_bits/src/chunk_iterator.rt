@@ -2,9 +2,7 @@
 ghost use Rattle.std.specs.Prelude.{◌≡◌, ◌+◌, ◌-◌, ◌*◌, ◌/◌, ◌%◌, ◌<◌, ◌≤◌, ◌^◌, length, take, Option, Some, IfSome};
 ghost use Rattle.std.specs.Iterator.{item_count, UpTo, IsFinite};
 ghost use Rattle.std.specs.Iterator.SizeHint.{IsWithinCount};
-ghost use Rattle.arrow2_model.specs.Bits.{bits, unnum};
-ghost use Rattle.arrow2_model.specs.Parts.{part};
-ghost use Rattle.arrow2_model.specs.Words.{WordCursor, GivesWord, full_words, rest, spill};
+ghost use Rattle.arrow2_model.specs.Lists.{bits, unnum, part, WordCursor, GivesWord, full_words, rest, spill};
 
 use crate::chunks::{chunk_at, padded_chunk_at};
 use arrow2_chunk::{BitChunk, BitChunkIter};
@@ -62,9 +60,7 @@ pub struct BitChunks<'a, T: BitChunk> {
 
 impl<'a, T: BitChunk> Model for BitChunks<'a, T> {
     ghost use Rattle.std.specs.Prelude.{◌+◌, ◌*◌};
-    ghost use Rattle.arrow2_model.specs.Bits.{bits};
-    ghost use Rattle.arrow2_model.specs.Parts.{part};
-    ghost use Rattle.arrow2_model.specs.Words.{WordCursor};
+    ghost use Rattle.arrow2_model.specs.Lists.{bits, part, WordCursor};
     ghost use Rattle.arrow2_bits.specs.Chunks.{IsChunkCursor};
 
     ghost Value = { WordCursor };

@@ -1,7 +1,6 @@
 //! Words read from bytes at a bit offset.
 ghost use Rattle.std.specs.Prelude.{◌≡◌, ℕ, ◌+◌, ◌*◌, ◌<◌, ◌≤◌, ◌^◌, get_or, false, length};
-ghost use Rattle.arrow2_model.specs.Bits.{bit, bits, unnum, num};
-ghost use Rattle.arrow2_model.specs.Parts.{part};
+ghost use Rattle.arrow2_model.specs.Lists.{bit, bits, unnum, num, part};
 
 use arrow2_chunk::BitChunk;
 

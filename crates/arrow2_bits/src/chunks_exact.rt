@@ -2,9 +2,7 @@
 ghost use Rattle.std.specs.Prelude.{◌≡◌, ◌*◌, ◌≤◌, ◌↔◌, length, take, Some, IfSome, IsTrue};
 ghost use Rattle.std.specs.Iterator.{item_count, UpTo};
 ghost use Rattle.std.specs.Iterator.SizeHint.{IsWithinCount};
-ghost use Rattle.arrow2_model.specs.Bits.{bits, unnum};
-ghost use Rattle.arrow2_model.specs.Parts.{part};
-ghost use Rattle.arrow2_model.specs.Words.{WordCursor, GivesWord, full_words, rest, exact_spill};
+ghost use Rattle.arrow2_model.specs.Lists.{bits, unnum, part, WordCursor, GivesWord, full_words, rest, exact_spill};
 
 use crate::bytes_for;
 use crate::chunk_iterator::{BitChunkIterExact, BitChunks};
@@ -19,7 +17,7 @@ pub struct BitChunksExact<'a, T: BitChunk> {
 }
 
 impl<'a, T: BitChunk> Model for BitChunksExact<'a, T> {
-    ghost use Rattle.arrow2_model.specs.Words.{WordCursor};
+    ghost use Rattle.arrow2_model.specs.Lists.{WordCursor};
 
     ghost Value = { WordCursor };
 

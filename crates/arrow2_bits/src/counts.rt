@@ -1,7 +1,6 @@
 //! Counts of bits that are not set.
 ghost use Rattle.std.specs.Prelude.{◌≡◌, ◌+◌, ◌-◌, ◌*◌, ◌/◌, ◌<◌, ◌≤◌, ◌^◌, length};
-ghost use Rattle.arrow2_model.specs.Bits.{bits};
-ghost use Rattle.arrow2_model.specs.Parts.{part, falses};
+ghost use Rattle.arrow2_model.specs.Lists.{bits, part, falses};
 ghost use Rattle.arrow2_model.specs.Touched.{touched, slice_reads};
 
 use crate::popcount::ones_of;

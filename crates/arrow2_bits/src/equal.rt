@@ -1,7 +1,6 @@
 //! Whether bits are the same.
 ghost use Rattle.std.specs.Prelude.{◌≡◌, ◌+◌, ◌*◌, ◌≤◌, ◌↔◌, length, IsTrue};
-ghost use Rattle.arrow2_model.specs.Bits.{bits};
-ghost use Rattle.arrow2_model.specs.Parts.{part};
+ghost use Rattle.arrow2_model.specs.Lists.{bits, part};
 
 use crate::chunk_iterator::BitChunks;
 use arrow2_chunk::BitChunk;

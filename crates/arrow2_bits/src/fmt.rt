@@ -1,7 +1,7 @@
 //! The text of bits: whole bytes, each from its highest bit to its lowest.
 ghost use Rattle.std.specs.Prelude.{◌≡◌, ◌+◌, ◌*◌, ◌<◌, ◌≤◌, ◌∷◌, [], length};
 ghost use Rattle.std.specs.Fmt.{WritesOnOk, WritesStyledOnOk};
-ghost use Rattle.arrow2_model.specs.Bits.{bit};
+ghost use Rattle.arrow2_model.specs.Lists.{bit};
 ghost use Rattle.arrow2_model.specs.Shown.{is_shown, bit_character, shown_byte, shown};
 ghost use Rattle.arrow2_bits.specs.Digits.{four_digits};
 
@@ -52,7 +52,7 @@ pub fn fmt<W: fmt::Write>(
 }
 
 /// Returns the digits of the four bits of `half`, from the highest to the lowest. Requires that `half` is below 16.
-#[tactic(auto, unfolding(arrow2_model::specs::Bits::bit))]
+#[tactic(auto, unfolding(arrow2_model::specs::Lists::bit))]
 fn digits(half: u8) -> &'static str
     requires { half < 16 }
     ensures { result.now ≡ four_digits half }

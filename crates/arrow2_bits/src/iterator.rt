@@ -2,8 +2,7 @@
 ghost use Rattle.std.specs.Prelude.{◌≡◌, ◌+◌, ◌*◌, ◌^◌, ◌<◌, ◌≤◌, length, false, slice_index_or, Some, IfSome};
 ghost use Rattle.std.specs.Iterator.{YieldsFirst, YieldsLast, item_count, UpTo};
 ghost use Rattle.std.specs.Iterator.SizeHint.{IsWithinCount};
-ghost use Rattle.arrow2_model.specs.Bits.{bits};
-ghost use Rattle.arrow2_model.specs.Parts.{part};
+ghost use Rattle.arrow2_model.specs.Lists.{bits, part};
 
 use crate::{get_bit, get_bit_from};
 use std::alloc::AllocError;
@@ -23,8 +22,7 @@ pub struct BitmapIter<'a> {
 
 impl<'a> Model for BitmapIter<'a> {
     ghost use Rattle.std.specs.Prelude.{◌+◌, ◌-◌, ◌*◌, ◌≤◌, length, List, Bool};
-    ghost use Rattle.arrow2_model.specs.Bits.{bits};
-    ghost use Rattle.arrow2_model.specs.Parts.{part};
+    ghost use Rattle.arrow2_model.specs.Lists.{bits, part};
 
     ghost Value = { List Bool };
 

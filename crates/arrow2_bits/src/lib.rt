@@ -2,7 +2,7 @@
 #![tactic(auto)]
 
 ghost use Rattle.std.specs.Prelude.{◌≡◌, ◌+◌, ◌*◌, ◌/◌, ◌<◌, ◌≤◌, length, false, slice_set, slice_index_or};
-ghost use Rattle.arrow2_model.specs.Bits.{bit, unnum, bits};
+ghost use Rattle.arrow2_model.specs.Lists.{bit, unnum, bits};
 
 mod chunk_iterator;
 mod chunks;

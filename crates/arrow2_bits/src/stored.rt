@@ -1,6 +1,6 @@
 //! Bytes whose reads are counted.
 ghost use Rattle.std.specs.Prelude.{◌≡◌, ◌+◌, ◌≤◌, length};
-ghost use Rattle.arrow2_model.specs.Parts.{part};
+ghost use Rattle.arrow2_model.specs.Lists.{part};
 
 use crate::reads::Reads;
 use std::marker::Model;

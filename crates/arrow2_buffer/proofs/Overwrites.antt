@@ -1,9 +1,7 @@
 -- Lists after a part of them was overwritten.
-use Rattle.std.proofs.Common.{◌≡◌, refl, sym, ap, ◌∙◌, ℕ, ◌+◌, ◌≤◌, List, ◌++◌, take, drop, length, arith}
-use Rattle.std.proofs.lemmas.List.{drop_at, drop-drop, take_at, length-take-le, length-append, length-drop}
+use Rattle.std.proofs.Common.{◌≡◌, refl, sym, ap, ◌∙◌, ℕ, ◌+◌, ◌≤◌, List, ◌++◌, take, drop, length, arith, drop_at, drop-drop, take_at, length-take-le, length-append, length-drop}
 use Rattle.std.specs.List.{length_refill}
-use Rattle.arrow2_model.specs.Buffers.{overwrite}
-use Rattle.arrow2_model.specs.Parts.{part}
+use Rattle.arrow2_model.specs.Lists.{overwrite, part}
 use Rattle.arrow2_buffer.specs.Loans.{overwrite_lent}
 
 -- the list keeps its length

@@ -1,7 +1,7 @@
 -- Parts of lists: their first and last items, and rulesets.
 use Rattle.std.proofs.Common.{◌≡◌, ℕ, suc, ◌+◌, ◌-◌, ◌<◌, ◌≤◌, List, [], ◌∷◌, ◌++◌, take, drop, length, get_or, refl, ap, ◌∙◌, arith}
 use Rattle.std.proofs.lemmas.List.{drop_more, take_more, get_or-drop, length-drop}
-use Rattle.arrow2_model.specs.Parts.{part}
+use Rattle.arrow2_model.specs.Lists.{part}
 use Rattle.arrow2_model.proofs.Parts.{part-part}
 
 pub part_none : {X : Type 0} (items : List X) (a n : ℕ) → n ≡ 0 → part items a n ≡ []

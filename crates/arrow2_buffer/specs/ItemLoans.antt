@@ -1,9 +1,8 @@
 -- The state of a buffer after a loan of its items has ended.
 use Rattle.std.specs.Prelude.{List}
-use Rattle.std.specs.Borrow.{LendsIf, MutBor, Fml, Array}
+use Rattle.std.specs.Borrow.{LendsIf, MutBor, Fml, Array, RattleType}
 use Rattle.std.specs.declared.option.Option.{Option}
-use denote.RattleType.{RattleType}
-use Rattle.arrow2_model.specs.Buffers.{BufferStorage}
+use Rattle.arrow2_model.specs.Lists.{BufferStorage}
 use Rattle.arrow2_buffer.specs.Loans.{overwrite_lent}
 use Rattle.arrow2_buffer.specs.contracts.immutable.Buffer.{the_row}
 

@@ -1,6 +1,6 @@
 -- The state of storage after a loan of it, or of a part of it, has ended.
 use Rattle.std.specs.Prelude.{◌≡◌, ℕ, List, length}
-use Rattle.std.specs.Borrow.{Lends, LendsIf, MutBor, Fml, Array}
+use Rattle.std.specs.Borrow.{Lends, LendsIf, MutBor, Fml, Array, RattleType}
 use Rattle.std.specs.List.{refill}
 use Rattle.std.specs.Rc.{rc_with_value}
 use Rattle.std.specs.declared.alloc.Global.{Global}
@@ -9,9 +9,7 @@ use Rattle.std.specs.declared.rc.Rc.{Rc}
 use Rattle.std.specs.contracts.alloc.Global as heap
 use Rattle.std.specs.contracts.impls.GlobalAllocator.TheImpl.{ghosts}
 use Rattle.std.specs.contracts.rc.Rc as owned
-use denote.RattleType.{RattleType}
-use Rattle.arrow2_model.specs.Buffers.{overwrite}
-use Rattle.arrow2_model.specs.Parts.{part}
+use Rattle.arrow2_model.specs.Lists.{overwrite, part}
 use Rattle.arrow2_buffer.specs.contracts.bytes.Bytes.{the_row}
 
 -- the list `items`, after the list `others` was written over it from index i on, through a loan that can't change the

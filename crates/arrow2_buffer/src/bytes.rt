@@ -1,6 +1,6 @@
 //! The storage that buffers share.
 ghost use Rattle.std.specs.Prelude.{◌≡◌, ◌-◌, ◌≤◌, [], length, IfSome};
-ghost use Rattle.arrow2_model.specs.Parts.{part};
+ghost use Rattle.arrow2_model.specs.Lists.{part};
 ghost use Rattle.std.specs.Borrow.{sem};
 ghost use Rattle.arrow2_buffer.specs.Loans.{LendsOwned, LendsPart};
 ghost use Rattle.std.specs.declared.alloc.Global.{Global};

@@ -1,6 +1,6 @@
 //! A list that is shared, cloned and sliced in constant time.
 ghost use Rattle.std.specs.Prelude.{◌≡◌, ◌≢◌, ◌+◌, ◌-◌, ◌^◌, ◌<◌, ◌≤◌, ◌↔◌, List, [], length, slice_index_or, IsTrue, IfOk, IfSome, MatchResult, ⊤, vec_len, vec_capacity};
-ghost use Rattle.std.specs.Bool.{OnTrue, OnFalse};
+ghost use Rattle.std.specs.Bool.{OnTrue, OnFalse, Decides};
 ghost use Rattle.std.specs.Borrow.{sem};
 ghost use Rattle.std.specs.Fmt.{debug_list};
 ghost use Rattle.std.specs.Fn.{FnOnceReturnsAtMut, FnOnceTakesAtMut};
@@ -10,11 +10,9 @@ ghost use Rattle.std.specs.Iterator.Runs.{WholeRun};
 ghost use Rattle.std.specs.Ordering.{on};
 ghost use Rattle.std.specs.Slice.Iter.{iter_rest};
 ghost use Rattle.std.specs.Cmp.{on_per, on_equiv};
-ghost use Rattle.std.specs.Bool.{Decides};
 ghost use Rattle.std.specs.Cmp.Lexicographic.{pointwise, lists_per, lists_equiv};
 ghost use Rattle.arrow2_types.specs.declared.error.Error.TheVariants.{OutOfMemory};
-ghost use Rattle.arrow2_model.specs.Parts.{part};
-ghost use Rattle.arrow2_model.specs.Buffers.{buffer_items, whole_buffer, overwrite};
+ghost use Rattle.arrow2_model.specs.Lists.{part, buffer_items, whole_buffer, overwrite};
 ghost use Rattle.arrow2_buffer.specs.Loans.{LendsOwnedPart, ReplacesPart};
 ghost use Rattle.either.specs.Either.{MatchEither};
 ghost use Rattle.std.specs.declared.alloc.Global.{Global};
@@ -58,7 +56,7 @@ pub struct Buffer<T> {
 
 impl<T> Model for Buffer<T> {
     ghost use Rattle.std.specs.Prelude.{◌+◌, ◌≤◌, ◌<◌, ◌^◌, length};
-    ghost use Rattle.arrow2_model.specs.Buffers.{BufferStorage};
+    ghost use Rattle.arrow2_model.specs.Lists.{BufferStorage};
 
     ghost Value = { BufferStorage T };
 

@@ -2,7 +2,7 @@
 ghost use Rattle.std.specs.Prelude.{◌≡◌, Some, length, IfSome};
 ghost use Rattle.std.specs.Iterator.{YieldsFirst, YieldsLast, item_count, UpTo};
 ghost use Rattle.std.specs.Iterator.SizeHint.{IsWithinCount};
-ghost use Rattle.arrow2_model.specs.Buffers.{buffer_items};
+ghost use Rattle.arrow2_model.specs.Lists.{buffer_items};
 
 use crate::immutable::Buffer;
 use std::alloc::AllocError;
@@ -20,8 +20,7 @@ pub struct IntoIter<T: Copy> {
 
 impl<T: Copy> Model for IntoIter<T> {
     ghost use Rattle.std.specs.Prelude.{◌-◌, ◌≤◌, List, length};
-    ghost use Rattle.arrow2_model.specs.Parts.{part};
-    ghost use Rattle.arrow2_model.specs.Buffers.{buffer_items};
+    ghost use Rattle.arrow2_model.specs.Lists.{part, buffer_items};
 
     ghost Value = { List T };
 

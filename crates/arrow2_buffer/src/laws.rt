@@ -1,8 +1,7 @@
 //! Laws of slices of buffers, and of what a buffer holds after a mutable borrow of its items has ended. A law is the
 //! contract of a function with an empty body.
 ghost use Rattle.std.specs.Prelude.{◌≡◌, ℕ, ◌+◌, ◌≤◌, List, length, take, drop};
-ghost use Rattle.arrow2_model.specs.Buffers.{BufferStorage, buffer_items};
-ghost use Rattle.arrow2_model.specs.Parts.{part};
+ghost use Rattle.arrow2_model.specs.Lists.{BufferStorage, buffer_items, part};
 ghost use Rattle.arrow2_buffer.specs.Loans.{overwrite_lent};
 
 /// A slice of a slice has the items of one slice, which starts at the sum of both indices: a part of a part of a list

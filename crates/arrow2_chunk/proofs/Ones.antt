@@ -1,6 +1,5 @@
 -- The indices of the set bits of a word.
-use Rattle.std.proofs.Common.{◌≡◌, ℕ, zero, suc, ◌+◌, ◌-◌, ◌*◌, ◌/◌, ◌%◌, ◌^◌, ◌<◌, Bool, List, [], ◌∷◌, length, get_or, drop, set, true, false, refl, ap, sym, ◌∙◌, inl, inr, arith, min, ◌≢◌}
-use Rattle.std.specs.Prelude.{bit_and, count_ones, filter}
+use Rattle.std.proofs.Common.{◌≡◌, ℕ, zero, suc, ◌+◌, ◌-◌, ◌*◌, ◌/◌, ◌%◌, ◌^◌, ◌<◌, Bool, List, [], ◌∷◌, length, get_or, drop, set, true, false, refl, ap, sym, ◌∙◌, inl, inr, arith, min, ◌≢◌, bit_and, count_ones, filter}
 use Rattle.std.specs.Int as width
 use Rattle.std.specs.Int.{bit_at, Width, trailing_zeros}
 use Rattle.std.specs.List.{range_with_len}
@@ -11,7 +10,7 @@ use Rattle.std.proofs.lemmas.Nat.Bits.{bit_at_and, bit_at_cat_low, bit_at_cat_hi
 use Rattle.std.proofs.Math.Nat.{mod-lt, mod-eq_of_lt, add-mod_right, suc-mul, zero-add, lt_trans}
 use Rattle.std.proofs.lemmas.List.{length-set, get_or-set_same, get_or-set_other, get_or_past}
 use Rattle.std.proofs.lemmas.Simd.{ones-mask_l, ones-mask_l_cons}
-use Rattle.arrow2_model.specs.Bits.{unnum, num}
+use Rattle.arrow2_model.specs.Lists.{unnum, num}
 use Rattle.arrow2_chunk.specs.Ones.{ones}
 use Rattle.arrow2_model.proofs.Bits.{length-unnum}
 use Rattle.arrow2_model.proofs.Numbers.{num-unnum}

@@ -1,12 +1,10 @@
 //! Words as lists of bits.
-ghost use Rattle.std.specs.Prelude.{◌≡◌, ◌+◌, ◌-◌, ◌*◌, ◌<◌, ◌≤◌, ◌^◌, ◌++◌, ◌&&◌, ◌||◌, ℕ, List, length, take, drop, replicate, map, not, false, pos, refl, reverse, [], ◌∷◌};
 ghost use Rattle.std.specs.Bool.{xor};
-ghost use Rattle.std.proofs.Common.{lit≤};
+ghost use Rattle.std.proofs.Common.{lit≤, ◌≡◌, ◌+◌, ◌-◌, ◌*◌, ◌<◌, ◌≤◌, ◌^◌, ◌++◌, ◌&&◌, ◌||◌, ℕ, List, length, take, drop, replicate, map, not, false, pos, refl, reverse, [], ◌∷◌};
 ghost use lib.Lanes.{zip2};
 ghost use Rattle.num_traits.specs.Laws.{bit_len};
-ghost use Rattle.arrow2_model.specs.Bits.{bit, bits, unnum};
+ghost use Rattle.arrow2_model.specs.Lists.{bit, bits, unnum, falses};
 ghost use Rattle.arrow2_chunk.specs.Ones.{ones};
-ghost use Rattle.arrow2_model.specs.Parts.{falses};
 ghost use Rattle.arrow2_model.specs.Digits.{digits, natural_from};
 
 use arrow2_types::{NativeType, array_of};

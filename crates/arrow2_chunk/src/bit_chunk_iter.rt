@@ -2,7 +2,7 @@
 ghost use Rattle.std.specs.Prelude.{◌≡◌, ◌≤◌, length, take, Some, IfSome};
 ghost use Rattle.std.specs.Iterator.{YieldsFirst, item_count, UpTo};
 ghost use Rattle.std.specs.Iterator.SizeHint.{IsWithinCount};
-ghost use Rattle.arrow2_model.specs.Bits.{unnum};
+ghost use Rattle.arrow2_model.specs.Lists.{unnum};
 ghost use Rattle.arrow2_chunk.specs.Ones.{ones};
 
 use crate::bit_chunk::BitChunk;
@@ -18,8 +18,7 @@ pub struct BitChunkIter<T: BitChunk> {
 
 impl<T: BitChunk> Model for BitChunkIter<T> {
     ghost use Rattle.std.specs.Prelude.{◌-◌, ◌≤◌, List, Bool};
-    ghost use Rattle.arrow2_model.specs.Bits.{unnum};
-    ghost use Rattle.arrow2_model.specs.Parts.{part};
+    ghost use Rattle.arrow2_model.specs.Lists.{unnum, part};
 
     ghost Value = { List Bool };
 
@@ -82,7 +81,7 @@ pub struct BitChunkOnes<T: BitChunk> {
 
 impl<T: BitChunk> Model for BitChunkOnes<T> {
     ghost use Rattle.std.specs.Prelude.{◌≡◌, List, ℕ, length};
-    ghost use Rattle.arrow2_model.specs.Bits.{unnum};
+    ghost use Rattle.arrow2_model.specs.Lists.{unnum};
     ghost use Rattle.arrow2_chunk.specs.Ones.{ones};
 
     ghost Value = { List ℕ };

@@ -1,5 +1,4 @@
 //! Signed numbers of 256 bits.
-ghost use Rattle.std.specs.Prelude.{◌≡◌, ◌≢◌, ◌<◌, ◌++◌, ◌^◌, ℕ, ℤ, List, length, pos, neg_ℤ, reverse, slice_index, drop, FitsSigned};
 ghost use Rattle.std.specs.Int.{w128};
 ghost use Rattle.std.specs.Ordering.{int_cmp, int_eq, as_partial_cmp};
 ghost use Rattle.std.specs.Cmp.{partial_order_from_own_ties};
@@ -7,7 +6,7 @@ ghost use Rattle.std.specs.Cmp.Rules.{comparing, hashing};
 ghost use Rattle.std.specs.Hash as fed;
 ghost use Rattle.std.specs.Hash.{same_Alike};
 ghost use Rattle.std.proofs.lemmas.Bool.Decides.{Decides-int_eq};
-ghost use Rattle.std.proofs.Common.{rules};
+ghost use Rattle.std.proofs.Common.{rules, ◌≡◌, ◌≢◌, ◌<◌, ◌++◌, ◌^◌, ℕ, ℤ, List, length, pos, neg_ℤ, reverse, slice_index, drop, FitsSigned};
 ghost use Rattle.arrow2_model.specs.Digits.{digits, integer_from, words_value, high_word, low_word};
 ghost use Rattle.arrow2_model.proofs.Words256.{digits_of_words, digits_of_words_high};
 ghost use Rattle.arrow2_types.specs.declared.primitive.PrimitiveType.TheVariants.{Int256};

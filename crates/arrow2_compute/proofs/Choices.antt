@@ -1,8 +1,7 @@
 -- Items of one list or of another: of values with their validity, of bits by truth tables, and one item more.
-use Rattle.std.proofs.Common.{◌≡◌, ℕ, zero, suc, ◌+◌, ◌<◌, List, [], ◌∷◌, ◌++◌, Bool, true, false, length, take, get_or, replicate, refl, ap, sym, ◌∙◌, arith}
-use Rattle.std.specs.Prelude.{if◌then◌else◌}
+use Rattle.std.proofs.Common.{◌≡◌, ℕ, zero, suc, ◌+◌, ◌<◌, List, [], ◌∷◌, ◌++◌, Bool, true, false, length, take, get_or, replicate, refl, ap, sym, ◌∙◌, arith, if◌then◌else◌}
 use Rattle.std.proofs.lemmas.List.{get_or-replicate, length-replicate}
-use Rattle.arrow2_model.specs.Bits.{bit}
+use Rattle.arrow2_model.specs.Lists.{bit}
 use Rattle.arrow2_model.specs.Tables.{answer, each}
 use Rattle.arrow2_model.proofs.Kernels.{each_from, get_or-each, length-each}
 use Rattle.arrow2_walks.specs.Selections.{choice}

@@ -1,6 +1,5 @@
 -- The least and the greatest of booleans.
-use Rattle.std.proofs.Common.{◌≡◌, ◌∙◌, ℕ, zero, suc, ◌<◌, ◌≤◌, ◌+◌, inl, inr, List, [], ◌∷◌, Bool, true, false, not, All, length, take, get_or, count_by, cond, refl, ap, sym, subst, arith}
-use Rattle.std.specs.Prelude.{Option, Some, None, Contains, IsTrue, MatchOption}
+use Rattle.std.proofs.Common.{◌≡◌, ◌∙◌, ℕ, zero, suc, ◌<◌, ◌≤◌, ◌+◌, inl, inr, List, [], ◌∷◌, Bool, true, false, not, All, length, take, get_or, count_by, cond, refl, ap, sym, subst, arith, Option, Some, None, Contains, IsTrue, MatchOption}
 use Rattle.std.specs.Cmp.Lexicographic.{slice_cmp}
 use Rattle.std.specs.Ordering.{is_some_and, nat_cmp, ordering_then, partial_ordering_then}
 use Rattle.std.specs.declared.cmp.Ordering.{Ordering}

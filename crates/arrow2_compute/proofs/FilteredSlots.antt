@@ -1,9 +1,7 @@
 -- Slots and their validity, filtered apart.
-use Rattle.std.proofs.Common.{◌≡◌, ◌∙◌, ◌+◌, List, Bool, true, length, map, replicate, ap, sym, subst, arith}
-use Rattle.std.specs.Prelude.{◌↔◌, Option, Some, None, IfSome, IsNone}
+use Rattle.std.proofs.Common.{◌≡◌, ◌∙◌, ◌+◌, List, Bool, true, length, map, replicate, ap, sym, subst, arith, ◌↔◌, Option, Some, None, IfSome, IsNone}
 use Rattle.std.proofs.lemmas.List.{length-map, length-replicate}
-use Rattle.arrow2_model.specs.Parts.{falses}
-use Rattle.arrow2_model.specs.Storage.{BitmapStorage, items_of}
+use Rattle.arrow2_model.specs.Lists.{falses, BitmapStorage, items_of}
 use Rattle.arrow2_offset.proofs.NestedLists.{length-cut}
 use Rattle.arrow2_bitmap.specs.PackedBitmaps.{IsPacked}
 use Rattle.arrow2_text.specs.Binary.{BinaryParts, IsCompact, binary_items, binary_values, slots_between}

@@ -1,12 +1,9 @@
 -- Loops of kernels: the items so far, and that their number is at most that of all items.
-use Rattle.std.proofs.Common.{◌≡◌, ℕ, zero, suc, ◌+◌, ◌<◌, ◌≤◌, List, [], ◌∷◌, ◌++◌, Bool, length, take, get_or, ap, sym, ◌∙◌, append_assoc, arith, add-one, inl, inr, rules}
-use Rattle.std.specs.Prelude.{◌^◌, ◌↔◌, ◌⊎◌, Result, Ok, Err, IfErr, IsErrOf}
-use Rattle.std.specs.List.{flat_map}
-use Rattle.std.proofs.lemmas.List.{append-nil, length-append}
+use Rattle.std.proofs.Common.{◌≡◌, ℕ, zero, suc, ◌+◌, ◌<◌, ◌≤◌, List, [], ◌∷◌, ◌++◌, Bool, length, take, get_or, ap, sym, ◌∙◌, append_assoc, arith, add-one, inl, inr, rules, ◌^◌, ◌↔◌, ◌⊎◌, Result, Ok, Err, IfErr, IsErrOf, flat_map, append-nil, length-append}
 use Rattle.std.proofs.Math.Seq.{take-length}
 use Rattle.arrow2_types.specs.declared.error.Error.{Error}
 use Rattle.arrow2_types.specs.declared.error.Error.TheVariants.{Overflow, OutOfMemory}
-use Rattle.arrow2_model.specs.Parts.{part}
+use Rattle.arrow2_model.specs.Lists.{part}
 use Rattle.arrow2_model.proofs.Parts.{length-part}
 use Rattle.arrow2_walks.specs.Selections.{choice}
 

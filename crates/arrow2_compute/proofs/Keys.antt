@@ -1,6 +1,5 @@
 -- Lemmas on keys, which are indices that may be null, and on the items at them: for a dictionary of one's own.
-use Rattle.std.proofs.Common.{◌≡◌, ℕ, zero, suc, List, [], ◌∷◌, Bool, true, false, All, map, get_or, refl, ap, sym, subst}
-use Rattle.std.specs.Prelude.{Option, None, ℤ}
+use Rattle.std.proofs.Common.{◌≡◌, ℕ, zero, suc, List, [], ◌∷◌, Bool, true, false, All, map, get_or, refl, ap, sym, subst, Option, None, ℤ}
 use Rattle.std.proofs.lemmas.List.{length-map}
 use Rattle.std.proofs.lemmas.List.Elements.{All-cons, All-head, All-nil, All-tail}
 use Rattle.arrow2_model.proofs.Parts.{part-map}

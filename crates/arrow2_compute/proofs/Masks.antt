@@ -1,9 +1,8 @@
 -- Validity bitmaps as booleans, and masks whose items may be null.
-use Rattle.std.proofs.Common.{◌≡◌, ℕ, zero, suc, ◌<◌, List, [], ◌∷◌, Bool, true, false, not, length, get_or, replicate, map, refl, ap, sym, ◌∙◌}
-use Rattle.std.specs.Prelude.{◌&&◌}
+use Rattle.std.proofs.Common.{◌≡◌, ℕ, zero, suc, ◌<◌, List, [], ◌∷◌, Bool, true, false, not, length, get_or, replicate, map, refl, ap, sym, ◌∙◌, ◌&&◌}
 use Rattle.std.specs.Simd.Lanes.{zip2}
 use Rattle.std.proofs.lemmas.List.{get_or-map, length-map}
-use Rattle.arrow2_model.specs.Bits.{bit}
+use Rattle.arrow2_model.specs.Lists.{bit}
 use Rattle.arrow2_model.specs.Tables.{answer, each}
 use Rattle.arrow2_model.proofs.Kernels.{each_from}
 use Rattle.arrow2_walks.specs.Zipped.{zipped}

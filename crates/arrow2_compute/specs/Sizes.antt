@@ -2,9 +2,8 @@
 use Rattle.std.specs.Prelude.{ℕ, ◌+◌, ◌<◌, ◌≤◌, ◌^◌, ◌⊎◌, List, [], ◌∷◌, ◌++◌, Option, None, Result, flat_map, length, slice_index_or, sum, sum_by}
 use Rattle.std.specs.Borrow.{Bor}
 use Rattle.std.specs.Option.{option_map_or}
-use Rattle.arrow2_model.specs.Buffers.{buffer_items}
+use Rattle.arrow2_model.specs.Lists.{buffer_items, BitmapStorage}
 use Rattle.arrow2_offset.specs.Offsets.{lengths_of}
-use Rattle.arrow2_model.specs.Storage.{BitmapStorage}
 use Rattle.arrow2_text.specs.Binary.{BinaryParts, binary_items, binary_of}
 use Rattle.arrow2_text.specs.Growth.{AppendsBinary, GrowingBinary}
 use Rattle.arrow2_types.specs.declared.error.Error.{Error}

@@ -1,7 +1,6 @@
 //! The least and the greatest item of an array of byte strings, of texts or of booleans.
-ghost use Rattle.std.specs.Prelude.{◌≡◌, List, None, ℕ, IsTrue};
+ghost use Rattle.std.specs.Prelude.{◌≡◌, List, None, ℕ, IsTrue, option_copied};
 ghost use Rattle.std.specs.Cmp.Lexicographic.{slice_cmp};
-ghost use Rattle.std.specs.Option.{option_copied};
 ghost use Rattle.std.specs.Ordering.{nat_cmp, ord_max, ord_min, partial_ge, partial_le};
 ghost use Rattle.arrow2_array.specs.Items.{boolean_items};
 ghost use Rattle.arrow2_compute.specs.Comparisons.{bool_le, bytes_cmp};

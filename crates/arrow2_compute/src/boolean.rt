@@ -1,7 +1,6 @@
 //! Which items of an array are null.
-ghost use Rattle.std.specs.Prelude.{◌≡◌, Bool, List, Some, map, not, IfOk, IfSome, IsNone};
-ghost use Rattle.std.specs.Option.{is_some};
-ghost use Rattle.arrow2_model.specs.Storage.{items_of};
+ghost use Rattle.std.specs.Prelude.{◌≡◌, Bool, List, Some, map, not, IfOk, IfSome, IsNone, is_some};
+ghost use Rattle.arrow2_model.specs.Lists.{items_of};
 ghost use Rattle.arrow2_array.specs.Items.{boolean_items};
 ghost use Rattle.arrow2_primitive.specs.Primitive.{primitive_items};
 ghost use Rattle.arrow2_text.specs.Binary.{binary_items};

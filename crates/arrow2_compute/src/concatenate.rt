@@ -1,12 +1,10 @@
 //! The items of several arrays, one after the other.
-ghost use Rattle.std.specs.Prelude.{◌≡◌, ◌+◌, ◌<◌, ◌≤◌, ◌^◌, ◌++◌, length, IfOk, IsErrOf, OnOk, ◌↔◌, IsNone, count_by};
-ghost use Rattle.std.specs.List.{flat_map};
+ghost use Rattle.std.specs.Prelude.{◌≡◌, ◌+◌, ◌<◌, ◌≤◌, ◌^◌, ◌++◌, length, IfOk, IsErrOf, OnOk, ◌↔◌, IsNone, count_by, flat_map, is_none};
 ghost use Rattle.arrow2_array.specs.Items.{boolean_items, nulls};
 ghost use Rattle.arrow2_compute.specs.Sizes.{AreTooLarge, joined_bytes, joined_items};
-ghost use Rattle.arrow2_model.specs.Buffers.{buffer_items};
+ghost use Rattle.arrow2_model.specs.Lists.{buffer_items};
 ghost use Rattle.arrow2_primitive.specs.Primitive.{primitive_items};
 ghost use Rattle.arrow2_text.specs.Binary.{IsCompact, binary_items};
-ghost use Rattle.std.specs.Option.{is_none};
 ghost use Rattle.arrow2_types.specs.Failures.{OnlyOverflowOrOutOfMemory};
 
 use crate::binary::{count, like};

@@ -1,12 +1,10 @@
 //! The items at given indices.
-ghost use Rattle.std.specs.Prelude.{◌≡◌, ◌<◌, ◌≤◌, All, Bool, None, Option, count_by, false, is_some, length, map, slice_index_or, sum_by, IfOk, IsErrOf, OnOk, ◌↔◌, IsNone};
+ghost use Rattle.std.specs.Prelude.{◌≡◌, ◌<◌, ◌≤◌, All, Bool, None, Option, count_by, false, is_some, length, map, slice_index_or, sum_by, IfOk, IsErrOf, OnOk, ◌↔◌, IsNone, is_none};
 ghost use Rattle.std.specs.List.{AllZip};
-ghost use Rattle.std.specs.Option.{is_none};
 ghost use Rattle.arrow2_array.specs.Items.{boolean_items};
 ghost use Rattle.arrow2_compute.specs.Take.{IsInBoundsOrNull, IsItemAt, ReturnsAlways, item_at, items_by_index};
 ghost use Rattle.arrow2_compute.specs.Sizes.{AppendsItem, binary_item, item_bytes};
-ghost use Rattle.arrow2_model.specs.Buffers.{buffer_items};
-ghost use Rattle.arrow2_model.specs.Storage.{items_of};
+ghost use Rattle.arrow2_model.specs.Lists.{buffer_items, items_of};
 ghost use Rattle.arrow2_primitive.specs.Primitive.{primitive_items};
 ghost use Rattle.arrow2_text.specs.Binary.{IsCompact, binary_items};
 ghost use Rattle.arrow2_validity.specs.OptionalValidity.{valid_items};

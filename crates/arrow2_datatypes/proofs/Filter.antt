@@ -1,6 +1,5 @@
 -- The accepted items of a list as they are kept one by one.
-use Rattle.std.proofs.Common.{◌≡◌, ℕ, ◌+◌, ◌<◌, ◌≤◌, Bool, true, false, cond, List, [], ◌∷◌, ◌++◌, length, map, take, drop, get_or, refl, ap, ◌∙◌, sym, arith, add-zero}
-use Rattle.std.specs.Prelude.{filter}
+use Rattle.std.proofs.Common.{◌≡◌, ℕ, ◌+◌, ◌<◌, ◌≤◌, Bool, true, false, cond, List, [], ◌∷◌, ◌++◌, length, map, take, drop, get_or, refl, ap, ◌∙◌, sym, arith, add-zero, filter}
 use Rattle.std.specs.List.{enumerate_from, SwappedAt}
 use Rattle.std.proofs.lemmas.List.{take_more, map-append, length-take, append-nil, take-set-le, drop-set-lt, get_or-drop, drop-drop, length-set}
 use Rattle.std.proofs.lemmas.List.Elements.{filter-append}

@@ -1,9 +1,6 @@
 -- Booleans read by words of 64.
-use Rattle.std.proofs.Common.{◌≡◌, ◌∙◌, ℕ, ◌+◌, ◌-◌, ◌*◌, ◌<◌, ◌≤◌, ◌^◌, List, ◌++◌, Bool, false, take, drop, replicate, length, ap, sym, arith}
-use Rattle.std.proofs.lemmas.List.{length-take-le, length-drop, drop-drop, take_all}
-use Rattle.arrow2_model.specs.Bits.{num, unnum}
-use Rattle.arrow2_model.specs.Kernels.{word}
-use Rattle.arrow2_model.specs.Words.{rest}
+use Rattle.std.proofs.Common.{◌≡◌, ◌∙◌, ℕ, ◌+◌, ◌-◌, ◌*◌, ◌<◌, ◌≤◌, ◌^◌, List, ◌++◌, Bool, false, take, drop, replicate, length, ap, sym, arith, length-take-le, length-drop, drop-drop, take_all}
+use Rattle.arrow2_model.specs.Lists.{num, unnum, word, rest}
 use Rattle.arrow2_model.proofs.Numbers.{unnum-num}
 use Rattle.arrow2_model.proofs.Words.{rest-none}
 use Rattle.arrow2_kernels.proofs.RowSteps.{one_rest}

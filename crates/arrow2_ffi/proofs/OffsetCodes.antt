@@ -1,6 +1,5 @@
 -- The state after a call on offsets, for each of its codes.
-use Rattle.std.proofs.Common.{◌≢◌, ℕ, List, inl, inr, refl, arith}
-use Rattle.std.specs.Prelude.{ℤ}
+use Rattle.std.proofs.Common.{◌≢◌, ℕ, List, inl, inr, refl, arith, ℤ}
 use Rattle.arrow2_offset.specs.Offsets.{AreOffsets}
 use Rattle.arrow2_ffi.specs.declared.codes.TheConstants.{ARROW2_OK, ARROW2_LENGTH}
 use Rattle.arrow2_ffi.specs.OffsetWrites.{WritesFromOffsets, WritesFromOffsetsOr}

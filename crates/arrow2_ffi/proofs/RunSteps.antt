@@ -1,9 +1,6 @@
 -- Runs written one by one.
-use Rattle.std.proofs.Common.{◌≡◌, ℕ, zero, suc, ◌+◌, ◌-◌, ◌*◌, ◌<◌, ◌≤◌, List, [], ◌∷◌, ◌++◌, Bool, true, false, length, take, set, ap, sym, ◌∙◌, refl, arith, add-one}
-use Rattle.std.specs.List.{zip}
-use Rattle.std.proofs.lemmas.List.{append_assoc}
-use Rattle.arrow2_model.specs.Bits.{bits}
-use Rattle.arrow2_model.specs.Parts.{part}
+use Rattle.std.proofs.Common.{◌≡◌, ℕ, zero, suc, ◌+◌, ◌-◌, ◌*◌, ◌<◌, ◌≤◌, List, [], ◌∷◌, ◌++◌, Bool, true, false, length, take, set, ap, sym, ◌∙◌, refl, arith, add-one, zip, append_assoc}
+use Rattle.arrow2_model.specs.Lists.{bits, part}
 use Rattle.arrow2_walks.specs.Runs.{runs_from}
 use Rattle.arrow2_walks.specs.Cursor.{IsFirst}
 use Rattle.arrow2_walks.proofs.TakenRuns.{next_run, no_run, none_at_end}

@@ -1,6 +1,5 @@
 -- The result of the check of texts where the numbers are no offsets.
-use Rattle.std.proofs.Common.{◌≡◌, ◌∙◌, ℕ, List, length, sym, arith}
-use Rattle.std.specs.Prelude.{ℤ}
+use Rattle.std.proofs.Common.{◌≡◌, ◌∙◌, ℕ, List, length, sym, arith, ℤ}
 use Rattle.arrow2_offset.specs.Offsets.{AreOffsets}
 use Rattle.arrow2_offset.specs.Failures.{first_broken_rule}
 use Rattle.arrow2_offset.specs.declared.check.BrokenRule.{BrokenRule}

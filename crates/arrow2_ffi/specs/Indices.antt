@@ -1,6 +1,5 @@
 -- Indices into a dictionary: each is a number or null.
-use Rattle.std.specs.Prelude.{◌≡◌, ◌≢◌, ℕ, ◌<◌, ◌↔◌, ◌⊎◌, ℤ, pos, ◌<ℤ◌, ◌≤ℤ◌, List, length, Bool, false, Option, MatchOption, slice_index_or}
-use Rattle.std.specs.Bool.{IsTrue}
+use Rattle.std.specs.Prelude.{◌≡◌, ◌≢◌, ℕ, ◌<◌, ◌↔◌, ◌⊎◌, ℤ, pos, ◌<ℤ◌, ◌≤ℤ◌, List, length, Bool, false, Option, MatchOption, slice_index_or, IsTrue}
 use Rattle.arrow2_ffi.specs.declared.codes.TheConstants.{ARROW2_OK, ARROW2_RANGE, ARROW2_INDEX}
 use Rattle.arrow2_ffi.specs.Validities.{CoversItems, items_not_null}
 

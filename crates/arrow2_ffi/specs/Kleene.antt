@@ -1,7 +1,6 @@
 -- Kleene's logic on bits in memory: the code of a call, and the bits that it wrote.
 use Rattle.std.specs.Prelude.{◌≡◌, ℕ, List, [], ◌∷◌, Bool, Option, take}
-use Rattle.arrow2_model.specs.Bits.{bits}
-use Rattle.arrow2_model.specs.Parts.{part}
+use Rattle.arrow2_model.specs.Lists.{bits, part}
 use Rattle.arrow2_model.specs.Tables.{each}
 use Rattle.arrow2_walks.specs.Zipped.{zipped}
 use Rattle.arrow2_array.specs.Kleene.{NullableOperator, by_items, kleene_and, kleene_or}

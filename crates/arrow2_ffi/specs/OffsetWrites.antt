@@ -1,6 +1,6 @@
 -- The code of an export on offsets.
 use Rattle.std.specs.Prelude.{◌≡◌, ◌≢◌, ◌+◌, ◌-◌, ◌<◌, ◌≤◌, ℕ, ℤ, pos, ◌↔◌, ◌⊎◌, List, length as len, map}
-use Rattle.arrow2_model.specs.Parts.{part}
+use Rattle.arrow2_model.specs.Lists.{part}
 use Rattle.arrow2_offset.specs.Offsets.{AreOffsets, lengths_of, offsets_list}
 use Rattle.arrow2_offset.specs.Failures.{first_broken_rule}
 use Rattle.arrow2_ffi.specs.declared.codes.TheConstants.{ARROW2_OK, ARROW2_RANGE, ARROW2_LENGTH}

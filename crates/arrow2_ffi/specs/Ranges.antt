@@ -1,7 +1,6 @@
 -- The tests of an export on the ranges and slices that it gets.
 use Rattle.std.specs.Prelude.{◌≡◌, ℕ, ◌+◌, ◌*◌, ◌/◌, ◌≤◌, List, [], ◌∷◌, Bool, length, map}
-use Rattle.arrow2_model.specs.Bits.{bits}
-use Rattle.arrow2_model.specs.Parts.{part}
+use Rattle.arrow2_model.specs.Lists.{bits, part}
 use Rattle.arrow2_ffi.specs.declared.bits_input.Bits.{Bits}
 
 -- the n bits from bit o on are inside the bytes

@@ -1,8 +1,6 @@
 -- The runs that a call has left.
-use Rattle.std.specs.Prelude.{◌≡◌, ℕ, ◌≤◌, List, Bool, length, take}
-use Rattle.std.specs.List.{zip}
-use Rattle.arrow2_model.specs.Bits.{bits}
-use Rattle.arrow2_model.specs.Parts.{part}
+use Rattle.std.specs.Prelude.{◌≡◌, ℕ, ◌≤◌, List, Bool, length, take, zip}
+use Rattle.arrow2_model.specs.Lists.{bits, part}
 use Rattle.arrow2_walks.specs.Runs.{runs_from}
 use Rattle.arrow2_ffi.specs.Ranges.{HaveEqualLengths, IsInside}
 use Rattle.arrow2_ffi.specs.Writes.{Resumes, Writes}

@@ -1,7 +1,6 @@
 -- The indices of set bits that a call has left.
 use Rattle.std.specs.Prelude.{◌≡◌, ℕ, ◌+◌, ◌≤◌, List, Bool, length, map, drop, take}
-use Rattle.arrow2_model.specs.Bits.{bits}
-use Rattle.arrow2_model.specs.Parts.{part}
+use Rattle.arrow2_model.specs.Lists.{bits, part}
 use Rattle.arrow2_chunk.specs.Ones.{ones}
 use Rattle.arrow2_ffi.specs.declared.codes.TheConstants.{ARROW2_RANGE}
 use Rattle.arrow2_ffi.specs.Ranges.{IsInside}

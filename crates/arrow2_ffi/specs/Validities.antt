@@ -1,7 +1,6 @@
 -- Validities that a call may be given or not.
 use Rattle.std.specs.Prelude.{ℕ, List, Bool, true, Option, Some, None, if◌then◌else◌, replicate}
-use Rattle.arrow2_model.specs.Bits.{bits}
-use Rattle.arrow2_model.specs.Parts.{part}
+use Rattle.arrow2_model.specs.Lists.{bits, part}
 use Rattle.arrow2_ffi.specs.declared.bits_input.Bits.{Bits}
 use Rattle.arrow2_ffi.specs.Ranges.{IsInside}
 

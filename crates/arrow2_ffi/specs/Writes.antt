@@ -1,9 +1,6 @@
 -- The code of an export, and the items that it wrote.
-use Rattle.std.specs.Prelude.{◌≡◌, ◌≢◌, ℕ, ◌<◌, ◌≤◌, ◌↔◌, ◌⊎◌, List, [], ◌∷◌, ◌++◌, Bool, take}
-use Rattle.arrow2_model.specs.Bits.{bits}
-use Rattle.std.specs.Bool.{IsTrue}
-use Rattle.arrow2_model.specs.Canonical.{IsCanonical}
-use Rattle.arrow2_model.specs.Parts.{part}
+use Rattle.std.specs.Prelude.{◌≡◌, ◌≢◌, ℕ, ◌<◌, ◌≤◌, ◌↔◌, ◌⊎◌, List, [], ◌∷◌, ◌++◌, Bool, take, IsTrue}
+use Rattle.arrow2_model.specs.Lists.{bits, IsCanonical, part}
 use Rattle.arrow2_model.specs.Tables.{each}
 use Rattle.arrow2_ffi.specs.Ranges.{IsInside, HasBytesForBits, AreInside, inputs_of}
 use Rattle.arrow2_ffi.specs.declared.codes.TheConstants.{ARROW2_OK, ARROW2_RANGE, ARROW2_LENGTH}

@@ -1,8 +1,7 @@
 //! Bits of bytes: counting, comparing, reading, writing and copying them. Bit `i` is bit `i % 8` of byte `i / 8`, the
 //! lowest first.
 ghost use Rattle.std.specs.Prelude.{◌≡◌, ◌*◌, ◌<◌, false, length, slice_index_or, slice_set};
-ghost use Rattle.arrow2_model.specs.Bits.{bits};
-ghost use Rattle.arrow2_model.specs.Parts.{part, falses};
+ghost use Rattle.arrow2_model.specs.Lists.{bits, part, falses};
 ghost use Rattle.arrow2_ffi.specs.Ranges.{IsInside, HasBytesForBits};
 ghost use Rattle.arrow2_ffi.specs.Writes.{ComparesBits, Stores, Writes, WritesIf};
 

@@ -1,6 +1,6 @@
 //! Reads booleans, one byte each, as words of 64 bits.
 ghost use Rattle.std.specs.Prelude.{◌∷◌, [], length};
-ghost use Rattle.arrow2_model.specs.Kernels.{word};
+ghost use Rattle.arrow2_model.specs.Lists.{word};
 
 use arrow2_chunk::BitChunk;
 use arrow2_kernels::WordRows;

@@ -1,7 +1,6 @@
 //! Converts booleans, one byte each, to bits and back.
 ghost use Rattle.std.specs.Prelude.{◌≡◌, length};
-ghost use Rattle.arrow2_model.specs.Bits.{bits};
-ghost use Rattle.arrow2_model.specs.Parts.{part};
+ghost use Rattle.arrow2_model.specs.Lists.{bits, part};
 ghost use Rattle.arrow2_ffi.specs.Ranges.{IsInside, HasBits, first_bits, HasBytesForBits};
 ghost use Rattle.arrow2_ffi.specs.Writes.{Stores, WritesIf};
 

@@ -1,8 +1,7 @@
 //! Checks that buffers have the bits and bytes that an array needs, and that a validity has the declared number of
 //! nulls.
 ghost use Rattle.std.specs.Prelude.{◌≡◌, ◌≢◌, ◌+◌, ◌*◌, ◌≤◌, ◌↔◌, ◌⊎◌, pos, negsuc};
-ghost use Rattle.arrow2_model.specs.Bits.{bits};
-ghost use Rattle.arrow2_model.specs.Parts.{part, falses};
+ghost use Rattle.arrow2_model.specs.Lists.{bits, part, falses};
 ghost use Rattle.arrow2_ffi.specs.Ranges.{IsInside};
 
 use crate::bits_input::{Bits, are_inside};

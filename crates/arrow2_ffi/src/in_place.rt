@@ -1,7 +1,6 @@
 //! Copies bits and writes the outputs of truth tables, in the caller's memory.
 ghost use Rattle.std.specs.Prelude.{◌≡◌, ◌*◌, ◌<◌, ◌≤◌, ℕ, List, Bool, [], ◌∷◌, take, length};
-ghost use Rattle.arrow2_model.specs.Bits.{bit, bits};
-ghost use Rattle.arrow2_model.specs.Canonical.{IsCanonical};
+ghost use Rattle.arrow2_model.specs.Lists.{bit, bits, IsCanonical};
 ghost use Rattle.arrow2_model.specs.Rows.{AreWordsOf, IsBitwiseOnOwnRows};
 ghost use Rattle.arrow2_model.specs.Tables.{answer, each};
 ghost use Rattle.arrow2_ffi.specs.Ranges.{HasBits, first_bits, HasBytesForBits};

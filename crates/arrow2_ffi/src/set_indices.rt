@@ -1,9 +1,8 @@
 //! The indices of set bits.
 //!
 //! With a code other than `ARROW2_OK` nothing is written.
-ghost use Rattle.std.specs.Prelude.{◌≡◌, ◌+◌, ◌<◌, ◌≤◌, ◌^◌, ℕ, List, ◌∷◌, ◌++◌, map, take, length, IfNone, IfSome};
-ghost use Rattle.std.specs.List.{All};
-ghost use Rattle.arrow2_model.specs.Bits.{unnum};
+ghost use Rattle.std.specs.Prelude.{◌≡◌, ◌+◌, ◌<◌, ◌≤◌, ◌^◌, ℕ, List, ◌∷◌, ◌++◌, map, take, length, IfNone, IfSome, All};
+ghost use Rattle.arrow2_model.specs.Lists.{unnum};
 ghost use Rattle.arrow2_chunk.specs.Ones.{ones};
 ghost use Rattle.arrow2_ffi.specs.Ranges.{HasBits, first_bits};
 ghost use Rattle.arrow2_ffi.specs.SetIndices.{FindsSetIndices, WritesSetIndices, index_outputs};

@@ -1,6 +1,5 @@
 //! The numbers that offsets are made of.
-ghost use Rattle.std.specs.Prelude.{◌≡◌, ◌≤◌, ◌<◌, ◌^◌, ◌↔◌, ℕ, pos, Bool, true, false};
-ghost use Rattle.std.proofs.Common.{arith};
+ghost use Rattle.std.proofs.Common.{arith, ◌≡◌, ◌≤◌, ◌<◌, ◌^◌, ◌↔◌, ℕ, pos, Bool, true, false};
 ghost use Rattle.std.specs.Int as width;
 ghost use Rattle.arrow2_model.proofs.SignedNumbers.{fits_below, below_fits};
 

@@ -6,10 +6,8 @@ use Rattle.std.proofs.lemmas.Nat.{div-mul-add, mod-mul-add}
 use Rattle.std.proofs.lemmas.Slice.{take-put_mid, drop-put_mid}
 use Rattle.std.proofs.Math.Nat.{mul_comm, mul-suc, div-lt_iff_lt-mul, mul-lt-mul_of_pos_left, lt_of_mul-lt-mul_left, div-add-mod, add-mul-mod_self_right, add-mul-div_right}
 use borrow.Rule.Slice.PartMut.{put_mid}
-use Rattle.arrow2_model.specs.Bits.{bit, bits, unnum}
-use Rattle.arrow2_model.specs.Parts.{part}
-use Rattle.arrow2_model.specs.Canonical.{IsCanonical}
-use Rattle.arrow2_model.specs.Kernels.{word, bits_of_words}
+use Rattle.arrow2_model.specs.Lists.{bit, bits, unnum, part, IsCanonical, word}
+use Rattle.arrow2_model.specs.Kernels.{bits_of_words}
 use Rattle.arrow2_kernels.specs.WordResults.{AreJoinedResults}
 use Rattle.arrow2_model.proofs.Bits.{length-unnum, get_or-unnum, bits-append, length-bits}
 use Rattle.arrow2_model.proofs.Bytes.{take-bits, drop-bits}

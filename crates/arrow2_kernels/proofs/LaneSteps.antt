@@ -1,18 +1,13 @@
 -- Lanes of bytes bit by bit, and loops that write bytes over others.
-use Rattle.std.proofs.Common.{◌≡◌, ℕ, suc, ◌+◌, ◌-◌, ◌*◌, ◌/◌, ◌%◌, ◌^◌, ◌<◌, ◌≤◌, ◌&&◌, List, [], ◌∷◌, ◌++◌, Bool, true, false, cond, length, get_or, take, drop, set, replicate, refl, ap, sym, subst, ◌∙◌, inl, inr, arith}
-use Rattle.std.specs.Prelude.{bit_and, bit_xor}
+use Rattle.std.proofs.Common.{◌≡◌, ℕ, suc, ◌+◌, ◌-◌, ◌*◌, ◌/◌, ◌%◌, ◌^◌, ◌<◌, ◌≤◌, ◌&&◌, List, [], ◌∷◌, ◌++◌, Bool, true, false, cond, length, get_or, take, drop, set, replicate, refl, ap, sym, subst, ◌∙◌, inl, inr, arith, bit_and, bit_xor, w8, Fits, take-add}
 use mathlib.Core.Bool.{xor}
-use mir.Syntax.{w8}
-use mir.Val.{Fits}
 use lib.Lanes.{zip2, put_chunk, chunk}
 use Rattle.std.proofs.lemmas.Bool.{cases_lt}
-use Rattle.std.proofs.Math.Seq.{take-add}
 use borrow.Rule.Slice.PartMut.{put_mid}
 use Rattle.arrow2_kernels.proofs.VectorWrites.{whole_written}
 use Rattle.std.proofs.lemmas.List.{take_at, drop_at, drop_all, append-nil, length-append, length-drop, get_or_append_left, get_or-append_right, take-take, get_or-take, length-take-le, get_or-replicate, get_or_past, take_all}
 use Rattle.std.proofs.lemmas.Simd.{length-put_chunk, get_or-zip2, get_or-chunk, get_or-put_chunk_below, get_or-put_chunk_at, get_or-put_chunk_above}
-use Rattle.arrow2_model.specs.Bits.{bit, bits, unnum}
-use Rattle.arrow2_model.specs.Canonical.{IsCanonical}
+use Rattle.arrow2_model.specs.Lists.{bit, bits, unnum, IsCanonical}
 use Rattle.arrow2_model.specs.Tables.{answer, each}
 use Rattle.arrow2_model.proofs.Bytes.{take-bits}
 use Rattle.arrow2_model.proofs.Bits.{bits-append, get_or-unnum, length-bits, get_or-bits_at}

@@ -1,11 +1,7 @@
 -- Steps over rows of words.
-use Rattle.std.proofs.Common.{◌≡◌, ℕ, zero, suc, ◌+◌, ◌-◌, ◌*◌, ◌/◌, ◌^◌, ◌<◌, List, [], ◌∷◌, ◌++◌, Bool, true, false, Option, None, Some, take, drop, replicate, length, get_or, refl, ap, sym, ◌∙◌, subst, arith}
-use Rattle.std.proofs.lemmas.Nat.{pow_pos}
-use Rattle.std.proofs.lemmas.List.{length-append, drop_at, drop-drop, take_all}
-use Rattle.std.proofs.Math.Nat.{mul-suc}
-use Rattle.arrow2_model.specs.Bits.{num, unnum}
-use Rattle.arrow2_model.specs.Words.{full_words, rest, WordCursor, GivesWord}
-use Rattle.arrow2_model.specs.Kernels.{word, words_at, AreWords}
+use Rattle.std.proofs.Common.{◌≡◌, ℕ, zero, suc, ◌+◌, ◌-◌, ◌*◌, ◌/◌, ◌^◌, ◌<◌, List, [], ◌∷◌, ◌++◌, Bool, true, false, Option, None, Some, take, drop, replicate, length, get_or, refl, ap, sym, ◌∙◌, subst, arith, pow_pos, length-append, drop_at, drop-drop, take_all, mul-suc}
+use Rattle.arrow2_model.specs.Lists.{num, unnum, full_words, rest, WordCursor, GivesWord, word}
+use Rattle.arrow2_model.specs.Kernels.{words_at, AreWords}
 use Rattle.arrow2_model.proofs.Bits.{length-unnum}
 use Rattle.arrow2_model.proofs.Numbers.{num-unnum, num-part-lt}
 use Rattle.arrow2_model.proofs.Words.{length-rest, rest-none, rest-whole, length-full_words, get_or-full_words}

@@ -3,7 +3,7 @@ use Rattle.std.proofs.Common.{◌≡◌, ℕ, zero, suc, ◌+◌, ◌/◌, ◌^�
 use lib.Lanes.{zip2}
 use mathlib.Core.Bool.{xor}
 use Rattle.std.proofs.Math.Nat.{div-div-eq-div-mul, div-one, pow-suc, pow-succ'}
-use Rattle.arrow2_model.specs.Bits.{bit, num, unnum}
+use Rattle.arrow2_model.specs.Lists.{bit, num, unnum}
 use Rattle.arrow2_model.specs.Tables.{answer}
 use Rattle.arrow2_model.proofs.Tables.{bit-zip2, bit-map}
 

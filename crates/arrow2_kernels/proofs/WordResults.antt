@@ -1,7 +1,7 @@
 -- Results of word functions.
 use Rattle.std.proofs.Common.{◌≡◌, ℕ, ◌*◌, ◌/◌, ◌%◌, ◌^◌, ◌<◌, List, [], ◌∷◌, Bool, false, get_or, ap, sym, subst, ◌∙◌, arith}
 use Rattle.std.proofs.Math.Nat.{mul-div-le, mod-lt}
-use Rattle.arrow2_model.specs.Bits.{unnum}
+use Rattle.arrow2_model.specs.Lists.{unnum}
 use Rattle.arrow2_model.specs.Kernels.{bits_of_words}
 use Rattle.arrow2_model.specs.Rows.{ComputesOwnRows}
 use Rattle.arrow2_model.proofs.Bits.{get_or-unnum}

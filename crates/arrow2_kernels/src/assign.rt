@@ -1,8 +1,7 @@
 //! Replacing the words of bytes by the results of a word function.
 ghost use Rattle.std.specs.Prelude.{◌≡◌, ◌+◌, ◌-◌, ◌*◌, ◌/◌, ◌<◌, ◌≤◌, ◌^◌, ◌⊎◌, ℕ, List, ◌∷◌, false, take, length, slice_index_or};
-ghost use Rattle.arrow2_model.specs.Bits.{bit, bits};
-ghost use Rattle.arrow2_model.specs.Canonical.{IsCanonical};
-ghost use Rattle.arrow2_model.specs.Kernels.{word, own_kernel};
+ghost use Rattle.arrow2_model.specs.Lists.{bit, bits, IsCanonical, word};
+ghost use Rattle.arrow2_model.specs.Kernels.{own_kernel};
 ghost use Rattle.arrow2_model.specs.Rows.{ComputesOwnRows};
 ghost use Rattle.arrow2_kernels.specs.WordResults.{AreJoinedResults, MayReturnOwn};
 

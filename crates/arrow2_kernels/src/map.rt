@@ -1,7 +1,6 @@
 //! The results of a word function, written over given bytes or into new bytes.
 ghost use Rattle.std.specs.Prelude.{◌≡◌, ◌+◌, ◌/◌, ℕ, List, Bool, take, IfOk, length};
-ghost use Rattle.arrow2_model.specs.Bits.{bits};
-ghost use Rattle.arrow2_model.specs.Canonical.{IsCanonical};
+ghost use Rattle.arrow2_model.specs.Lists.{bits, IsCanonical};
 ghost use Rattle.arrow2_model.specs.Kernels.{bits_of_words};
 ghost use Rattle.arrow2_model.specs.Rows.{IsBitwiseOnRows, AreRowsOf, ComputesRows};
 ghost use Rattle.arrow2_model.specs.Tables.{each};

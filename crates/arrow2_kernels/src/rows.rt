@@ -1,7 +1,7 @@
 //! Lists of booleans, zipped and read by words.
 ghost use Rattle.std.specs.Prelude.{◌≡◌, ◌+◌, ◌<◌, ◌++◌, ℕ, List, [], ◌∷◌, length};
-ghost use Rattle.arrow2_model.specs.Kernels.{word, AreWords};
-ghost use Rattle.arrow2_model.specs.Words.{WordCursor};
+ghost use Rattle.arrow2_model.specs.Lists.{word, WordCursor};
+ghost use Rattle.arrow2_model.specs.Kernels.{AreWords};
 ghost use Rattle.arrow2_model.specs.Rows.{GivesRow};
 
 use arrow2_bits::{BitChunkIterExact, BitChunks};

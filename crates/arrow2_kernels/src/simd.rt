@@ -1,6 +1,6 @@
 //! Truth tables on 32 bytes at once: a vector has 32 lanes of a byte each.
 ghost use Rattle.std.specs.Prelude.{◌≡◌, ◌<◌, ℕ, [], ◌∷◌, if◌then◌else◌, length, slice_index};
-ghost use Rattle.arrow2_model.specs.Bits.{bit};
+ghost use Rattle.arrow2_model.specs.Lists.{bit};
 ghost use Rattle.arrow2_model.specs.Tables.{answer};
 
 use arrow2_chunk::BitChunk;

@@ -1,7 +1,6 @@
 //! Replacing bytes by the outputs of a truth table, 32 bytes at a time.
 ghost use Rattle.std.specs.Prelude.{◌≡◌, ◌+◌, ◌*◌, ◌/◌, ◌%◌, ◌^◌, ◌<◌, ◌≤◌, [], ◌∷◌, slice_index, slice_set, take, length};
-ghost use Rattle.arrow2_model.specs.Bits.{bits};
-ghost use Rattle.arrow2_model.specs.Canonical.{IsCanonical};
+ghost use Rattle.arrow2_model.specs.Lists.{bits, IsCanonical};
 ghost use Rattle.arrow2_model.specs.Tables.{each};
 
 use crate::simd::{binary_lanes, unary_lanes};

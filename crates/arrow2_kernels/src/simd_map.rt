@@ -1,7 +1,6 @@
 //! New lists from truth tables, 32 bytes at a time.
 ghost use Rattle.std.specs.Prelude.{◌≡◌, ◌+◌, ◌*◌, ◌/◌, ◌≤◌, [], ◌∷◌, ◌++◌, take, length, IfOk, OnOk, vec_len};
-ghost use Rattle.arrow2_model.specs.Bits.{bits};
-ghost use Rattle.arrow2_model.specs.Canonical.{IsCanonical};
+ghost use Rattle.arrow2_model.specs.Lists.{bits, IsCanonical};
 ghost use Rattle.arrow2_model.specs.Tables.{each};
 
 use crate::simd_assign::{assign_unary, clear_padding, write_by_table};

@@ -1,7 +1,7 @@
 //! Truth tables as word functions: bit `a1 + 2 * a2 + 4 * a3 + 8 * a4` of a table is its output for inputs `a1` to
 //! `a4`. Bits of a table past its last output are not read.
 ghost use Rattle.std.specs.Prelude.{◌≡◌, ◌<◌, ◌^◌, ℕ, [], ◌∷◌, if◌then◌else◌};
-ghost use Rattle.arrow2_model.specs.Bits.{bit};
+ghost use Rattle.arrow2_model.specs.Lists.{bit};
 ghost use Rattle.arrow2_model.specs.Tables.{answer};
 
 use arrow2_chunk::BitChunk;

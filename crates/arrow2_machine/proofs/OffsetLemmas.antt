@@ -1,7 +1,5 @@
 -- Offsets of the program against those of the machine of lists.
-use Rattle.std.proofs.Common.{◌≡◌, ◌∙◌, sym, ap, refl, subst, ◌+◌, ◌<◌, ◌≤◌, ℕ, List, [], ◌∷◌, ◌++◌, map, sum, arith, append-nil}
-use Rattle.std.specs.Prelude.{Result, Ok, Err, OnOk, ℤ, pos, unsigned_abs}
-use Rattle.std.specs.Fmt.{decimal}
+use Rattle.std.proofs.Common.{◌≡◌, ◌∙◌, sym, ap, refl, subst, ◌+◌, ◌<◌, ◌≤◌, ℕ, List, [], ◌∷◌, ◌++◌, map, sum, arith, append-nil, Result, Ok, Err, OnOk, ℤ, pos, unsigned_abs, decimal}
 use Rattle.std.specs.Iterator.{YieldsFirst, Yields}
 use Rattle.std.specs.Iterator.Runs.{WholeRun, YieldsRun}
 use Rattle.std.proofs.lemmas.List.Sums.{sum_by-append}

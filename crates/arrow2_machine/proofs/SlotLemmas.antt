@@ -1,6 +1,5 @@
 -- The last item of a list.
-use Rattle.std.proofs.Common.{◌≡◌, ◌∙◌, ap, refl, ◌-◌, List, [], ◌∷◌, ◌++◌, length, take, Bool, arith}
-use Rattle.std.specs.Prelude.{Some, slice_get}
+use Rattle.std.proofs.Common.{◌≡◌, ◌∙◌, ap, refl, ◌-◌, List, [], ◌∷◌, ◌++◌, length, take, Bool, arith, Some, slice_get}
 use Rattle.std.proofs.lemmas.List.{take_at, length_push, get_or_at}
 use Rattle.std.proofs.lemmas.Option.{slice_get-get_or}
 

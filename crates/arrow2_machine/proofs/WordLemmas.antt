@@ -1,11 +1,9 @@
 -- A list of booleans as words, one by one, and their text.
-use Rattle.std.proofs.Common.{◌≡◌, ◌∙◌, sym, ap, refl, ℕ, zero, suc, ◌+◌, ◌-◌, ◌*◌, ◌<◌, ◌≤◌, ◌^◌, min, List, [], ◌∷◌, ◌++◌, Bool, true, false, take, drop, length, length-append, get_or, map, replicate, codes, append_assoc, append-nil, arith}
-use Rattle.std.specs.Fmt.{decimal}
+use Rattle.std.proofs.Common.{◌≡◌, ◌∙◌, sym, ap, refl, ℕ, zero, suc, ◌+◌, ◌-◌, ◌*◌, ◌<◌, ◌≤◌, ◌^◌, min, List, [], ◌∷◌, ◌++◌, Bool, true, false, take, drop, length, length-append, get_or, map, replicate, codes, append_assoc, append-nil, arith, decimal}
 use Rattle.std.specs.Int.{div_ceil}
 use Rattle.std.proofs.Math.Nat.{div-eq_of_lt, mod-eq_of_lt, div-eq-sub-div, mod-eq-sub-mod, zero-div, zero-mod, mul-suc, mul-zero}
 use Rattle.std.proofs.lemmas.List.{length-drop, drop-drop, drop_at, ext_get_or, nil_from_length, take_all}
-use Rattle.arrow2.specs.Bits.{num, unnum}
-use Rattle.arrow2.specs.Words.{words, full_words}
+use Rattle.arrow2.specs.Lists.{num, unnum, words, full_words}
 use Rattle.arrow2.proofs.Words.{length-unnum, num-filled, num-unnum, length-words, get_or-words, full_words-cons}
 use Rattle.arrow2_machine.specs.Replies.{listed_word, words_text}
 use Rattle.arrow2_machine.proofs.WordListLemmas.{led, text-led}

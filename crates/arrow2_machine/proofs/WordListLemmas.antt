@@ -1,6 +1,5 @@
 -- Lists of words, one by one.
-use Rattle.std.proofs.Common.{◌≡◌, ◌∙◌, ◌⊎◌, inl, inr, sym, ap, refl, ℕ, Bool, length, List, [], ◌∷◌, ◌++◌, map, append_assoc, append-nil}
-use Rattle.std.specs.List.{flat_map}
+use Rattle.std.proofs.Common.{◌≡◌, ◌∙◌, ◌⊎◌, inl, inr, sym, ap, refl, ℕ, Bool, length, List, [], ◌∷◌, ◌++◌, map, append_assoc, append-nil, flat_map}
 use Rattle.arrow2.specs.Zipped.{slot, zipped}
 use Rattle.arrow2_machine.specs.Replies.{words_text}
 

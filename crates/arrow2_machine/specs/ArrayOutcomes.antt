@@ -1,6 +1,5 @@
 -- The effect of each command on boolean arrays on the machine of lists.
-use Rattle.std.specs.Prelude.{ℕ, ◌==◌, Bool, List, length, map, Option, Some, None, Result, Ok, Err, if◌then◌else◌}
-use Rattle.std.specs.Fmt.{decimal}
+use Rattle.std.specs.Prelude.{ℕ, ◌==◌, Bool, List, length, map, Option, Some, None, Result, Ok, Err, if◌then◌else◌, decimal}
 use Rattle.arrow2.specs.Items.{nulls}
 use Rattle.arrow2.specs.Kleene.{kleene_and, kleene_or, by_items}
 use Rattle.arrow2.specs.Zipped.{zipped}

@@ -1,8 +1,7 @@
 -- The effect of each command on offsets on the machine of lists.
-use Rattle.std.specs.Prelude.{ℕ, ◌+◌, ◌-◌, ◌==◌, ◌||◌, nat_lt, List, [], ◌∷◌, ◌++◌, length, map, sum, slice_set, take, codes, Result, Ok, Err, if◌then◌else◌}
+use Rattle.std.specs.Prelude.{ℕ, ◌+◌, ◌-◌, ◌==◌, ◌||◌, nat_lt, List, [], ◌∷◌, ◌++◌, length, map, sum, slice_set, take, codes, Result, Ok, Err, if◌then◌else◌, decimal}
 use Rattle.arrow2.specs.Zipped.{zipped}
-use Rattle.std.specs.Fmt.{decimal}
-use Rattle.arrow2.specs.Parts.{part}
+use Rattle.arrow2.specs.Lists.{part}
 use Rattle.arrow2.specs.Offsets.{offset_at, last_offset}
 use Rattle.arrow2_script.specs.declared.offset_command.OffsetCommand.{OffsetCommand}
 use Rattle.arrow2_script.specs.declared.offset_command.OffsetCommand.TheVariants as command

@@ -1,7 +1,6 @@
 -- The replies of the machine.
-use Rattle.std.specs.Prelude.{ℕ, ℤ, unsigned_abs, Bool, List, [], ◌∷◌, ◌++◌, map, codes, Option, Some, None, if◌then◌else◌}
+use Rattle.std.specs.Prelude.{ℕ, ℤ, unsigned_abs, Bool, List, [], ◌∷◌, ◌++◌, map, codes, Option, Some, None, if◌then◌else◌, decimal}
 use Rattle.std.specs.List.{join_with_byte}
-use Rattle.std.specs.Fmt.{decimal}
 use Rattle.arrow2_script.specs.Words.{bit_byte}
 use Rattle.arrow2_machine.specs.declared.line_error.LineError.{LineError}
 use Rattle.arrow2_machine.specs.declared.line_error.LineError.TheVariants.{Syntax, Kind, Range, Length, Overflow}

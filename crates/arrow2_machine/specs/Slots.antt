@@ -1,9 +1,8 @@
 -- The contents of a slot of the program, as the machine of lists sees them.
 use Rattle.std.specs.Prelude.{ℤ, List}
-use Rattle.arrow2.specs.Buffers.{buffer_items}
+use Rattle.arrow2.specs.Lists.{buffer_items, items_of}
 use Rattle.arrow2.specs.Items.{boolean_items}
 use Rattle.arrow2.specs.Offsets.{start_of, lengths_of}
-use Rattle.arrow2.specs.Storage.{items_of}
 use Rattle.arrow2_machine.specs.SlotValues.{SlotValue}
 use Rattle.arrow2_machine.specs.SlotValues as machine
 use Rattle.arrow2_machine.specs.declared.slot.Contents.{Contents}

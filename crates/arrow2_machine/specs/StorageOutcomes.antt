@@ -1,10 +1,7 @@
 -- The effect of each command on stored bits on the machine of lists.
-use Rattle.std.specs.Prelude.{ℕ, ◌+◌, ◌-◌, ◌*◌, ◌^◌, ◌||◌, nat_lt, Bool, List, length, map, slice_set, Result, Ok, Err, if◌then◌else◌}
-use Rattle.std.specs.Fmt.{decimal}
-use Rattle.arrow2.specs.Bits.{bits}
-use Rattle.arrow2.specs.Parts.{part}
+use Rattle.std.specs.Prelude.{ℕ, ◌+◌, ◌-◌, ◌*◌, ◌^◌, ◌||◌, nat_lt, Bool, List, length, map, slice_set, Result, Ok, Err, if◌then◌else◌, decimal}
+use Rattle.arrow2.specs.Lists.{bits, part, words}
 use Rattle.arrow2.specs.Runs.{runs}
-use Rattle.arrow2.specs.Words.{words}
 use Rattle.arrow2_script.specs.Words.{width_bits}
 use Rattle.arrow2_script.specs.declared.words.Width.{Width}
 use Rattle.arrow2_script.specs.declared.storage_command.StorageCommand.{StorageCommand}

@@ -1,6 +1,6 @@
 //! The commands on bitmaps: the effect of each on its slots, and its reply.
 ghost use Rattle.std.specs.Prelude.{◌≡◌, slice_get, OnErr};
-ghost use Rattle.arrow2.specs.Storage.{items_of};
+ghost use Rattle.arrow2.specs.Lists.{items_of};
 ghost use Rattle.arrow2_machine.specs.SlotValues.{Growing};
 ghost use Rattle.arrow2_machine.specs.Replies.{item_reply};
 ghost use Rattle.arrow2_machine.specs.BitmapOutcomes.{after_push, after_pop, reply_with_item, after_freeze, after_thaw, after_slice, false_count, item_text, part_inside, bitmap_outcome};

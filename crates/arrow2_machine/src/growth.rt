@@ -1,6 +1,6 @@
 //! The commands by which bitmaps grow by many items: the effect of each on its slots, and its reply.
 ghost use Rattle.std.specs.Prelude.{◌≡◌, OnErr};
-ghost use Rattle.arrow2.specs.Storage.{items_of};
+ghost use Rattle.arrow2.specs.Lists.{items_of};
 ghost use Rattle.arrow2_machine.specs.GrowthOutcomes.{after_fill, after_append, growth_outcome};
 ghost use Rattle.arrow2_machine.specs.Outcomes.{Gives, Carries};
 

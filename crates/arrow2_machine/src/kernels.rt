@@ -1,6 +1,6 @@
 //! The commands that combine bitmaps: the effect of each on its slots, and its reply.
 ghost use Rattle.std.specs.Prelude.{◌≡◌, [], ◌∷◌, length, OnErr, IfOk};
-ghost use Rattle.arrow2.specs.Storage.{items_of};
+ghost use Rattle.arrow2.specs.Lists.{items_of};
 ghost use Rattle.arrow2.specs.Tables.{each};
 ghost use Rattle.arrow2_machine.specs.SlotValues.{frozen_list as frozen_in};
 ghost use Rattle.arrow2_machine.specs.KernelOutcomes.{two_lists, three_lists, four_lists, kernel_items, after_assign_unary, after_assign_binary, kernel_outcome};

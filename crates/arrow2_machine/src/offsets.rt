@@ -1,6 +1,6 @@
 //! The commands on offsets: the effect of each on its slots, and its reply.
 ghost use Rattle.std.specs.Prelude.{◌≡◌, ◌<◌, ◌≤◌, ◌+◌, [], ◌∷◌, ◌≤ℤ◌, pos, unsigned_abs, sum, OnOk, OnErr, IfOk, IsErrOf};
-ghost use Rattle.arrow2.specs.Buffers.{buffer_items};
+ghost use Rattle.arrow2.specs.Lists.{buffer_items};
 ghost use Rattle.arrow2.specs.Offsets.{last_of_growing, GrownBy, SameOffsets};
 ghost use Rattle.arrow2_machine.specs.Slots.{offsets_in};
 ghost use Rattle.arrow2_machine.specs.Replies.{offset_reply};

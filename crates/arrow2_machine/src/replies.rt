@@ -1,9 +1,8 @@
 //! The parts of replies.
-ghost use Rattle.std.specs.Prelude.{◌≡◌, ◌++◌, ℕ, length, map, unsigned_abs, OnOk};
-ghost use Rattle.std.specs.Fmt.{decimal};
+ghost use Rattle.std.specs.Prelude.{◌≡◌, ◌++◌, ℕ, length, map, unsigned_abs, OnOk, decimal};
 ghost use Rattle.arrow2.specs.Items.{boolean_items};
 ghost use Rattle.arrow2.specs.Zipped.{slot, zipped};
-ghost use Rattle.arrow2.specs.Words.{words};
+ghost use Rattle.arrow2.specs.Lists.{words};
 ghost use Rattle.arrow2_script.specs.Words.{bit_byte as byte_of, bits_text};
 ghost use Rattle.arrow2_machine.specs.Replies.{array_byte as array_byte_of, array_items_text, item_reply, listed_word, offset_reply, run_word, slot_word, words_text};
 

@@ -1,13 +1,12 @@
 -- Words that are joined into a list.
-use Rattle.std.proofs.Common.{◌≡◌, ℕ, zero, suc, ◌+◌, ◌-◌, ◌*◌, ◌/◌, ◌%◌, ◌<◌, ◌≤◌, List, [], ◌∷◌, Bool, false, length, get_or, ap, sym, ◌∙◌, arith}
+use Rattle.std.proofs.Common.{◌≡◌, ℕ, zero, suc, ◌+◌, ◌-◌, ◌*◌, ◌/◌, ◌%◌, ◌<◌, ◌≤◌, List, [], ◌∷◌, Bool, false, length, get_or, ap, sym, ◌∙◌, arith, mul-suc, mul_comm}
 use Rattle.std.specs.Int.{div_ceil}
 use Rattle.std.specs.List.{flat_map, range_with_len}
 use Rattle.std.proofs.lemmas.List.{ext_get_or, length-take-le, get_or-take, length-append, get_or_append_left, get_or-append_right}
 use Rattle.std.proofs.lemmas.List.FromFn.{length-range_with_len, get_or-range_with_len}
 use Rattle.std.proofs.lemmas.Nat.{mod_below, div_below, div-add-mod'}
 use Rattle.std.proofs.lemmas.Grind.{div_ceil_times}
-use Rattle.std.proofs.Math.Nat.{mul-suc, mul_comm}
-use Rattle.arrow2_model.specs.Bits.{bit, unnum}
+use Rattle.arrow2_model.specs.Lists.{bit, unnum}
 use Rattle.arrow2_model.specs.Kernels.{bits_of_words}
 use Rattle.arrow2_model.proofs.Bits.{length-unnum, get_or-unnum}
 

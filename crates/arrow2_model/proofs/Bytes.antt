@@ -1,8 +1,7 @@
 -- The bits of whole bytes: fronts, ends and parts of them, and zeros.
 use Rattle.std.proofs.Common.{◌≡◌, ℕ, zero, suc, ◌+◌, ◌*◌, ◌≤◌, List, ◌∷◌, ◌++◌, false, true, take, drop, replicate, length, refl, ap, sym, ◌∙◌, arith}
 use Rattle.std.proofs.lemmas.List.{take-append-drop, drop_at, take_at, length-drop, length-take-le, drop-drop, replicate-append-replicate}
-use Rattle.arrow2_model.specs.Bits.{unnum, bits}
-use Rattle.arrow2_model.specs.Parts.{part}
+use Rattle.arrow2_model.specs.Lists.{unnum, bits, part}
 use Rattle.arrow2_model.proofs.Bits.{bits-nil, bits-cons, bits-append, length-bits}
 use Rattle.arrow2_model.proofs.Parts.{part-part}
 

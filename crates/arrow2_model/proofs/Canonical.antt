@@ -1,19 +1,13 @@
 -- Bytes that hold n bits and nothing after them.
-use Rattle.std.proofs.Common.{◌≡◌, ◌≢◌, inl, inr, ℕ, suc, ◌+◌, ◌-◌, ◌*◌, ◌/◌, ◌%◌, ◌^◌, ◌<◌, ◌≤◌, ◌==◌, List, [], ◌∷◌, ◌++◌, Bool, true, false, take, drop, replicate, length, get_or, set, refl, ap, sym, ◌∙◌, arith, subst}
+use Rattle.std.proofs.Common.{◌≡◌, ◌≢◌, inl, inr, ℕ, suc, ◌+◌, ◌-◌, ◌*◌, ◌/◌, ◌%◌, ◌^◌, ◌<◌, ◌≤◌, ◌==◌, List, [], ◌∷◌, ◌++◌, Bool, true, false, take, drop, replicate, length, get_or, set, refl, ap, sym, ◌∙◌, arith, subst, bit_or, mod-lt}
 use Rattle.std.specs.Int as width
-use Rattle.std.specs.Prelude.{bit_or}
-use Rattle.std.specs.Int.{div_ceil, from_bool}
+use Rattle.std.specs.Int.{div_ceil, from_bool, bit_at}
 use Rattle.std.proofs.lemmas.Bool.{cases_lt, cases_eq}
 use Rattle.std.proofs.lemmas.Nat.{shr_split, pow_pos}
 use Rattle.std.proofs.lemmas.Nat.Bits.{bit_at_above, bit_at_cat_low}
-use Rattle.std.specs.Int.{bit_at}
 use Rattle.std.specs.Int.Bits.{or_zero_r}
 use Rattle.std.proofs.lemmas.List.{length-append, length-set, length-take, length-take-le, get_or-append_right, get_or-set_same, get_or-set_other, get_or-take, get_or_past, ext_get_or, take-append-le, take_more, take_more_set, append-nil, take-append-drop}
-use Rattle.std.proofs.Math.Nat.{mod-lt}
-use Rattle.arrow2_model.specs.Bits.{bit, unnum, bits}
-use Rattle.arrow2_model.specs.Parts.{part}
-use Rattle.arrow2_model.specs.Words.{words}
-use Rattle.arrow2_model.specs.Canonical.{canonical_bytes, IsCanonical}
+use Rattle.arrow2_model.specs.Lists.{bit, unnum, bits, part, words, canonical_bytes, IsCanonical}
 use Rattle.arrow2_model.proofs.Bits.{length-unnum, get_or-unnum, bits-nil, bits-cons, bits-append, length-bits, get_or-bits, get_or-bits_at, bits-set, unnum-or, bit_is}
 use Rattle.arrow2_model.proofs.Numbers.{bit-num, num-part-lt, same_from_bits}
 use Rattle.arrow2_model.proofs.Parts.{get_or-falses, get_or-part}

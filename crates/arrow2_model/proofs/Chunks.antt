@@ -1,20 +1,17 @@
 -- The effect of the operators on words on the bits of a word, at any width.
-use Rattle.std.proofs.Common.{◌≡◌, ℕ, zero, suc, ◌+◌, ◌-◌, ◌*◌, ◌/◌, ◌%◌, ◌^◌, ◌<◌, ◌≤◌, ◌==◌, Bool, ◌&&◌, ◌||◌, not, map, List, [], ◌∷◌, ◌++◌, length, get_or, take, drop, replicate, false, refl, ap, sym, ◌∙◌, inl, inr, arith, min, max, subst, pow-add, add-zero, slice_index}
-use Rattle.std.specs.Prelude.{bit_and, bit_or, bit_xor}
+use Rattle.std.proofs.Common.{◌≡◌, ℕ, zero, suc, ◌+◌, ◌-◌, ◌*◌, ◌/◌, ◌%◌, ◌^◌, ◌<◌, ◌≤◌, ◌==◌, Bool, ◌&&◌, ◌||◌, not, map, List, [], ◌∷◌, ◌++◌, length, get_or, take, drop, replicate, false, refl, ap, sym, ◌∙◌, inl, inr, arith, min, max, subst, pow-add, add-zero, slice_index, bit_and, bit_or, bit_xor}
 use Rattle.std.specs.Int.{bit_at, bytes_low_first}
-use lib.Bits.{or_lt, xor_lt}
 use mathlib.Core.Bool.{xor}
 use lib.Lanes.{zip2}
 use Rattle.std.proofs.Math.Nat.{div-div-eq-div-mul, div-lt_iff_lt-mul, div-one, mod-lt, pow-suc, pow-succ'}
 use Rattle.std.proofs.lemmas.Bool.{cases_lt}
 use Rattle.std.proofs.lemmas.List.{drop_more, ext_get_or, get_or_append_left, get_or-append_right, get_or-take, get_or-drop, length-append, length-take, length-drop, length-replicate, get_or-replicate, take_all, append-nil}
 use Rattle.std.proofs.lemmas.Simd.{length-zip2, get_or-zip2}
-use Rattle.std.proofs.lemmas.Nat.{shr_split, pow_pos, one_shl}
+use Rattle.std.proofs.lemmas.Nat.{shr_split, pow_pos, one_shl, or_lt, xor_lt}
 use Rattle.std.proofs.lemmas.Nat.Bits.{bit_at_and, bit_at_or, bit_at_xor, bit_at-lt, bit_at-zero, bit_at_above, bit_at_cat_low, bit_at_cat_high}
-use Rattle.arrow2_model.specs.Bits.{unnum, bit, bits, num}
+use Rattle.arrow2_model.specs.Lists.{unnum, bit, bits, num, part}
 use Rattle.arrow2_model.specs.Digits.{low_digits, natural_from}
 use Rattle.arrow2_model.proofs.Bits.{bit_is, bit_shifted, get_or-unnum, length-unnum, bits-nil, bits-cons, length-bits}
-use Rattle.arrow2_model.specs.Parts.{part}
 use Rattle.arrow2_model.proofs.Parts.{length-part}
 use Rattle.arrow2_model.proofs.Numbers.{num-unnum, unnum-num}
 use Rattle.arrow2_model.proofs.Digits.{low_digits-zero, low_digits-suc, natural_from-all, natural_from-lt, low_digits-number, low_bytes}

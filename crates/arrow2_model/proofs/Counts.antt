@@ -1,13 +1,8 @@
 -- Counts of false items.
-use Rattle.std.proofs.Common.{◌≡◌, ℕ, ◌+◌, ◌-◌, ◌/◌, ◌%◌, ◌^◌, ◌<◌, ◌≤◌, List, [], ◌∷◌, ◌++◌, Bool, true, false, cond, not, take, drop, length, get_or, subst, refl, ap, sym, ◌∙◌, arith, zero, suc, replicate, zero-add}
-use Rattle.std.specs.Prelude.{count_ones, count_by}
-use Rattle.std.proofs.Math.Nat.{mod-lt}
-use Rattle.std.proofs.lemmas.List.{map-id, drop_at, take_at}
+use Rattle.std.proofs.Common.{◌≡◌, ℕ, ◌+◌, ◌-◌, ◌/◌, ◌%◌, ◌^◌, ◌<◌, ◌≤◌, List, [], ◌∷◌, ◌++◌, Bool, true, false, cond, not, take, drop, length, get_or, subst, refl, ap, sym, ◌∙◌, arith, zero, suc, replicate, zero-add, count_ones, count_by, mod-lt, map-id, drop_at, take_at, pow_pos}
 use Rattle.std.proofs.lemmas.List.Sums.{count_by-le-length, sum_by-append, sum_by-cons}
-use Rattle.std.proofs.lemmas.Nat.{pow_pos}
 use Rattle.std.proofs.lemmas.Simd.{ones-mask_l}
-use Rattle.arrow2_model.specs.Bits.{unnum, bits, num}
-use Rattle.arrow2_model.specs.Parts.{part, falses}
+use Rattle.arrow2_model.specs.Lists.{unnum, bits, num, part, falses}
 use Rattle.arrow2_model.proofs.Bits.{length-unnum, bits-cons}
 use Rattle.arrow2_model.proofs.Chunks.{unnum-add, unnum-mod}
 use Rattle.arrow2_model.proofs.Numbers.{num-unnum}

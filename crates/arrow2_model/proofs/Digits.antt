@@ -1,6 +1,5 @@
 -- The bytes that std's conversions give and take are digits.
-use Rattle.std.proofs.Common.{◌≡◌, ℕ, zero, suc, ◌+◌, ◌-◌, ◌*◌, ◌/◌, ◌%◌, ◌^◌, ◌<◌, ◌≤◌, List, [], ◌∷◌, ◌++◌, length, take, drop, slice_index, reverse, refl, ap, sym, ◌∙◌, arith, inl, inr, false, ltb, cond}
-use Rattle.std.specs.Prelude.{ℤ, pos, negsuc, FitsSigned}
+use Rattle.std.proofs.Common.{◌≡◌, ℕ, zero, suc, ◌+◌, ◌-◌, ◌*◌, ◌/◌, ◌%◌, ◌^◌, ◌<◌, ◌≤◌, List, [], ◌∷◌, ◌++◌, length, take, drop, slice_index, reverse, refl, ap, sym, ◌∙◌, arith, inl, inr, false, ltb, cond, ℤ, pos, negsuc, FitsSigned}
 use Rattle.std.specs.Int as width
 use Rattle.std.specs.Int.{Width, byte_at, byte_worth, bytes_low_first, bytes_high_first, sum_through, cast_unsigned, cast_signed, from_le_bytes, from_be_bytes, w128}
 use Rattle.std.proofs.Math.Seq.{take-append_seam, drop-append_seam}

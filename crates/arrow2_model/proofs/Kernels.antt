@@ -1,15 +1,11 @@
 -- Kernels, and how tables are kernels.
-use Rattle.std.proofs.Common.{◌≡◌, ℕ, zero, suc, ◌+◌, ◌*◌, ◌/◌, ◌%◌, ◌<◌, List, [], ◌∷◌, Bool, false, length, get_or, map, refl, ap, sym, ◌∙◌, arith}
+use Rattle.std.proofs.Common.{◌≡◌, ℕ, zero, suc, ◌+◌, ◌*◌, ◌/◌, ◌%◌, ◌<◌, List, [], ◌∷◌, Bool, false, length, get_or, map, refl, ap, sym, ◌∙◌, arith, ext_get_or, mul_comm}
 use Rattle.std.specs.Int.{div_ceil}
 use Rattle.std.specs.List.{range_with_len}
-use Rattle.std.proofs.lemmas.List.{ext_get_or}
 use Rattle.std.proofs.lemmas.List.FromFn.{length-map-range_with_len, get_or-map-range_with_len}
 use Rattle.std.proofs.lemmas.Nat.{mod_below, div-add-mod', pow_pos}
-use Rattle.std.proofs.Math.Nat.{mul_comm}
-use Rattle.arrow2_model.specs.Bits.{bit, unnum, num}
-use Rattle.arrow2_model.specs.Parts.{part}
-use Rattle.arrow2_model.specs.Words.{words}
-use Rattle.arrow2_model.specs.Kernels.{word, words_at, common_length, kernel, AreWords}
+use Rattle.arrow2_model.specs.Lists.{bit, unnum, num, part, words, word}
+use Rattle.arrow2_model.specs.Kernels.{words_at, common_length, kernel, AreWords}
 use Rattle.arrow2_model.specs.Tables.{answer, items_at, each, bits_at, IsBitwise}
 use Rattle.arrow2_model.proofs.Bits.{length-unnum, get_or-unnum}
 use Rattle.arrow2_model.proofs.Numbers.{bit-num, num-part-lt}

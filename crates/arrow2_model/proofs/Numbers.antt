@@ -1,10 +1,8 @@
 -- Lists of booleans and their numbers.
-use Rattle.std.proofs.Common.{◌≡◌, ℕ, zero, suc, ◌+◌, ◌*◌, ◌/◌, ◌%◌, ◌^◌, ◌<◌, ◌≤◌, ◌==◌, List, [], ◌∷◌, Bool, true, false, cond, drop, length, get_or, refl, ap, sym, ◌∙◌, arith}
+use Rattle.std.proofs.Common.{◌≡◌, ℕ, zero, suc, ◌+◌, ◌*◌, ◌/◌, ◌%◌, ◌^◌, ◌<◌, ◌≤◌, ◌==◌, List, [], ◌∷◌, Bool, true, false, cond, drop, length, get_or, refl, ap, sym, ◌∙◌, arith, length-take, ext_get_or}
 use Rattle.std.proofs.lemmas.Simd.{bit_mask_l, mask_l-lt}
-use Rattle.std.proofs.lemmas.List.{length-take, ext_get_or}
 use Rattle.std.proofs.Math.Nat.{pow-suc, pow-le-pow_right}
-use Rattle.arrow2_model.specs.Bits.{bit, unnum, num, sum_of_powers}
-use Rattle.arrow2_model.specs.Parts.{part}
+use Rattle.arrow2_model.specs.Lists.{bit, unnum, num, sum_of_powers, part}
 use Rattle.arrow2_model.proofs.Bits.{bit_is, length-unnum, get_or-unnum}
 
 pub lowest : (x : ℕ) → cond (x % 2 == 1) 1 0 ≡ x % 2

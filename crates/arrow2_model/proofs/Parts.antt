@@ -1,9 +1,8 @@
 -- Parts of lists.
-use Rattle.std.proofs.Common.{◌≡◌, inl, inr, ℕ, zero, suc, ◌+◌, ◌-◌, ◌<◌, ◌≤◌, List, [], ◌∷◌, ◌++◌, Bool, false, map, take, drop, replicate, length, get_or, refl, ap, sym, ◌∙◌, arith, rules}
+use Rattle.std.proofs.Common.{◌≡◌, inl, inr, ℕ, zero, suc, ◌+◌, ◌-◌, ◌<◌, ◌≤◌, List, [], ◌∷◌, ◌++◌, Bool, false, map, take, drop, replicate, length, get_or, refl, ap, sym, ◌∙◌, arith, rules, take-add}
 use Rattle.std.proofs.lemmas.Bool.{cases_lt}
 use Rattle.std.proofs.lemmas.List.{get_or_append_left, get_or-append_right, get_or_past, places, take_more, get_or-drop, get_or-take, length-drop, drop-take, take-take, drop-drop, take_all, drop-append-le, drop-map, take-append-le, take-map}
-use Rattle.std.proofs.Math.Seq.{take-add}
-use Rattle.arrow2_model.specs.Parts.{part}
+use Rattle.arrow2_model.specs.Lists.{part}
 
 pub get_or-part : {X : Type 0} → (items : List X) (a n k : ℕ) (d : X) → k < n → get_or (part items a n) k d ≡ get_or items (a + k) d
 get_or-part items a n k d h = get_or-take n (drop a items) k d h ∙ get_or-drop a items k d

@@ -1,6 +1,6 @@
 -- Kernels of lists that are read row by row.
 use Rattle.std.proofs.Common.{◌≡◌, ℕ, ◌<◌, List, [], ◌∷◌, Bool, slice_index, ap, sym, ◌∙◌, refl}
-use Rattle.arrow2_model.specs.Bits.{unnum}
+use Rattle.arrow2_model.specs.Lists.{unnum}
 use Rattle.arrow2_model.specs.Kernels.{bits_of_words, kernel, words_at, common_length, unary_kernel, binary_kernel, ternary_kernel, quaternary_kernel}
 use Rattle.arrow2_model.specs.Tables.{each}
 use Rattle.arrow2_model.proofs.BitsOfWords.{same_joined}

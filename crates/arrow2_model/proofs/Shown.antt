@@ -1,6 +1,5 @@
 -- The text of bits, byte by byte.
-use Rattle.std.proofs.Common.{◌≡◌, inl, inr, ℕ, zero, suc, ◌+◌, ◌-◌, ◌*◌, ◌<◌, ◌≤◌, List, [], ◌∷◌, ◌++◌, Bool, true, false, map, length, get_or, refl, ap, sym, ◌∙◌, arith, min}
-use Rattle.std.specs.Prelude.{reverse, filter, codes, nat_lt, take, ◌/◌}
+use Rattle.std.proofs.Common.{◌≡◌, inl, inr, ℕ, zero, suc, ◌+◌, ◌-◌, ◌*◌, ◌<◌, ◌≤◌, List, [], ◌∷◌, ◌++◌, Bool, true, false, map, length, get_or, refl, ap, sym, ◌∙◌, arith, min, reverse, filter, codes, nat_lt, take, ◌/◌}
 use Rattle.std.specs.Char.{encode_utf8}
 use Rattle.std.specs.List.{range_with_len, list_any, join_by, flat_map}
 use Rattle.std.proofs.lemmas.Bool.{cases_lt, le-leb, lt-leb, lt-ltb, le-ltb}
@@ -10,7 +9,7 @@ use Rattle.std.proofs.lemmas.List.Concat.{flat_map-append}
 use Rattle.std.proofs.lemmas.List.FromFn.{length-range_with_len, get_or-range_with_len}
 use Rattle.std.proofs.lemmas.List.Folds.{list_any_at}
 use Rattle.std.proofs.lemmas.Str.{encode_ascii}
-use Rattle.arrow2_model.specs.Bits.{bit, bits}
+use Rattle.arrow2_model.specs.Lists.{bit, bits}
 use Rattle.arrow2_model.specs.Shown.{is_shown, bit_character, shown_byte, shown_indices, shown, items_byte, items_text}
 use Rattle.arrow2_model.proofs.Bits.{get_or-bits, length-bits}
 

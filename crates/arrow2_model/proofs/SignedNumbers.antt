@@ -1,9 +1,7 @@
 -- The natural numbers of a signed type.
-use Rattle.std.proofs.Common.{ℕ, ◌-◌, ◌^◌, ◌≤◌, arith}
-use Rattle.std.specs.Prelude.{pos, FitsSigned}
+use Rattle.std.proofs.Common.{ℕ, ◌-◌, ◌^◌, ◌≤◌, arith, pos, FitsSigned, pow_pos}
 use Rattle.std.specs.Int.{Width}
 use mir.Val.{hbits}
-use Rattle.std.proofs.lemmas.Nat.{pow_pos}
 
 pub fits_below : (w : Width) (n : ℕ) → FitsSigned w (pos n) → n ≤ 2 ^ hbits w - 1
 fits_below w n f = let s = f.sfits in omega arith

@@ -4,7 +4,7 @@ use mathlib.Core.Bool.{xor}
 use lib.Lanes.{zip2}
 use Rattle.std.proofs.lemmas.List.{ext_get_or, get_or-map, length-replicate, get_or-replicate}
 use Rattle.std.proofs.lemmas.Simd.{get_or-zip2}
-use Rattle.arrow2_model.specs.Bits.{bit, unnum}
+use Rattle.arrow2_model.specs.Lists.{bit, unnum}
 use Rattle.arrow2_model.specs.Tables.{answer, each}
 use Rattle.arrow2_model.proofs.Bits.{length-unnum, get_or-unnum}
 use Rattle.arrow2_model.proofs.Kernels.{length-each, get_or-each, each_from}

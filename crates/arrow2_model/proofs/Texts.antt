@@ -1,9 +1,7 @@
 -- The texts of whole bitmaps are those of their lists.
 use Rattle.std.proofs.Common.{◌≡◌, ◌∙◌, ap, ◌+◌, ◌*◌, ◌/◌, ◌%◌, ◌≤◌, List, Bool, ℕ, length, arith}
-use Rattle.arrow2_model.specs.Parts.{part}
-use Rattle.arrow2_model.specs.Canonical.{canonical_bytes}
+use Rattle.arrow2_model.specs.Lists.{part, canonical_bytes, BitmapStorage, items_of}
 use Rattle.arrow2_model.specs.Shown.{shown, items_text}
-use Rattle.arrow2_model.specs.Storage.{BitmapStorage, items_of}
 use Rattle.arrow2_model.proofs.Canonical.{length-canonical_bytes, items-canonical_bytes}
 use Rattle.arrow2_model.proofs.Bytes.{part-bits-part}
 use Rattle.arrow2_model.proofs.Parts.{length-part}

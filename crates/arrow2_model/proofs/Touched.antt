@@ -1,8 +1,6 @@
 -- The reads of counts of bits: bounds, and the potential that pays for many cuts.
-use Rattle.std.proofs.Common.{◌≡◌, ℕ, zero, suc, ◌+◌, ◌-◌, ◌*◌, ◌/◌, ◌%◌, ◌^◌, ◌<◌, ◌≤◌, ◌==◌, ◌↔◌, cond, refl, ap, sym, ◌∙◌, subst, inl, inr, arith}
-use Rattle.std.specs.Prelude.{nat_lt}
+use Rattle.std.proofs.Common.{◌≡◌, ℕ, zero, suc, ◌+◌, ◌-◌, ◌*◌, ◌/◌, ◌%◌, ◌^◌, ◌<◌, ◌≤◌, ◌==◌, ◌↔◌, cond, refl, ap, sym, ◌∙◌, subst, inl, inr, arith, nat_lt, pow-suc, mul-le-mul_left, add-mul}
 use Rattle.std.proofs.lemmas.Bool.{cases_lt, cond_both, cond-true, eq-eqb, eqb-true, ltb-true, ltb-false}
-use Rattle.std.proofs.Math.Nat.{pow-suc, mul-le-mul_left, add-mul}
 use Rattle.arrow2_model.specs.Touched.{touched, slice_reads, cut_reads, halvings, lg, cut_budget, HoldsBit}
 
 -- ---- the bytes that hold bits

@@ -1,13 +1,10 @@
 -- Words of a list.
-use Rattle.std.proofs.Common.{◌≡◌, ℕ, zero, suc, ◌+◌, ◌-◌, ◌*◌, ◌/◌, ◌<◌, ◌≤◌, List, [], ◌∷◌, ◌++◌, Bool, take, drop, length, get_or, inl, inr, refl, ap, sym, ◌∙◌, arith}
-use Rattle.std.specs.List.{flat_map}
+use Rattle.std.proofs.Common.{◌≡◌, ℕ, zero, suc, ◌+◌, ◌-◌, ◌*◌, ◌/◌, ◌<◌, ◌≤◌, List, [], ◌∷◌, ◌++◌, Bool, take, drop, length, get_or, inl, inr, refl, ap, sym, ◌∙◌, arith, flat_map}
 use Rattle.std.proofs.lemmas.Bool.{cases_lt}
 use Rattle.std.specs.Int.{div_ceil}
 use Rattle.std.proofs.lemmas.List.FromFn.{length-map-range_with_len, get_or-map-range_with_len}
-use Rattle.arrow2_model.specs.Bits.{num, unnum}
+use Rattle.arrow2_model.specs.Lists.{num, unnum, part, words, full_words, rest}
 use Rattle.arrow2_model.proofs.Numbers.{unnum-num}
-use Rattle.arrow2_model.specs.Parts.{part}
-use Rattle.arrow2_model.specs.Words.{words, full_words, rest}
 use Rattle.std.proofs.Math.Nat.{div-eq_of_lt, div-eq-sub-div, mul-suc, mul-add, mul-zero, zero-mul, lt-div-mul-add, lt-mul-div-succ}
 use Rattle.std.proofs.lemmas.List.{length-take-le, get_or-take, length-drop, drop-drop, ext_get_or, nil_from_length, append_assoc, take-append-drop}
 

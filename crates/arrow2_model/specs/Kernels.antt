@@ -1,15 +1,10 @@
 -- Word functions on lists of booleans: each list is read as words of some width, the last one filled with false, and
 -- the bits of the results are a list again (Arrow columnar format, "Validity bitmaps": a computation by words has to
 -- specify what it does with the bits after the last item).
-use Rattle.std.specs.Prelude.{◌≡◌, ℕ, ◌*◌, ◌<◌, ◌^◌, List, [], ◌∷◌, Bool, map, take, length, slice_index, slice_index_or}
+use Rattle.std.specs.Prelude.{◌≡◌, ℕ, ◌<◌, ◌^◌, List, [], ◌∷◌, Bool, map, take, length, slice_index, slice_index_or}
 use Rattle.std.specs.List.{flat_map, range_with_len}
 use Rattle.std.specs.Int.{div_ceil}
-use Rattle.arrow2_model.specs.Bits.{num, unnum}
-use Rattle.arrow2_model.specs.Parts.{part}
-
--- word j of a list: item j of its `words`, or 0 past the last word
-abbrev pub word : ℕ → List Bool → ℕ → ℕ
-word w items j = num (part items (w * j) w)
+use Rattle.arrow2_model.specs.Lists.{unnum, word}
 
 -- word j of each list
 abbrev pub words_at : ℕ → List (List Bool) → ℕ → List ℕ

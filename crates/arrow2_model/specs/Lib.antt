@@ -1,12 +1,7 @@
-pub mod Bits
-pub mod Buffers
-pub mod Canonical
 pub mod Digits
 pub mod Kernels
-pub mod Parts
+pub mod Lists
 pub mod Rows
 pub mod Shown
-pub mod Storage
 pub mod Tables
 pub mod Touched
-pub mod Words

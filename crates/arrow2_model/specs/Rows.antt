@@ -1,6 +1,6 @@
 -- Lists of one length that are read row by row: a row has the next word of each list.
 use Rattle.std.specs.Prelude.{◌≡◌, ℕ, ◌+◌, ◌<◌, ◌^◌, List, ◌∷◌, Bool, Option, MatchOption}
-use Rattle.arrow2_model.specs.Bits.{bit, unnum}
+use Rattle.arrow2_model.specs.Lists.{bit, unnum}
 use Rattle.arrow2_model.specs.Kernels.{AreWords, common_length, words_at}
 use Rattle.arrow2_model.specs.Tables.{answer, bits_at}
 

@@ -1,7 +1,7 @@
 -- The text that shows some of the bits of bytes, byte by byte and the highest bit of each byte first.
 use Rattle.std.specs.Prelude.{ℕ, ◌+◌, ◌*◌, ◌/◌, List, ◌++◌, Bool, false, ◌&&◌, nat_le, nat_lt, length, map, filter, reverse, slice_index_or, codes, if◌then◌else◌}
 use Rattle.std.specs.List.{range_with_len, list_any, join_by}
-use Rattle.arrow2_model.specs.Bits.{bits}
+use Rattle.arrow2_model.specs.Lists.{bits}
 
 -- bit p is one of the len bits from bit offset on
 abbrev pub is_shown : ℕ → ℕ → ℕ → Bool

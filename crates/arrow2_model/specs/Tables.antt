@@ -1,7 +1,7 @@
 -- Truth tables of up to four inputs.
 use Rattle.std.specs.Prelude.{◌≡◌, ℕ, ◌<◌, ◌^◌, List, [], ◌∷◌, Bool, false, map, slice_index_or}
 use Rattle.std.specs.List.{range_with_len}
-use Rattle.arrow2_model.specs.Bits.{bit, num}
+use Rattle.arrow2_model.specs.Lists.{bit, num}
 use Rattle.arrow2_model.specs.Kernels.{common_length, AreWords}
 
 -- the output of table t for inputs a1 to a4: bit number a1 + 2 * a2 + 4 * a3 + 8 * a4 of t

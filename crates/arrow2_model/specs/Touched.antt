@@ -1,6 +1,5 @@
 -- The number of bytes that are read to count bits, for one slice and for many cuts together.
-use Rattle.std.specs.Prelude.{◌≡◌, ◌<◌, ◌≤◌, ℕ, zero, suc, ◌+◌, ◌-◌, ◌*◌, ◌/◌, ◌==◌, List, if◌then◌else◌, nat_lt}
-use Rattle.std.specs.List.{sum_by}
+use Rattle.std.specs.Prelude.{◌≡◌, ◌<◌, ◌≤◌, ℕ, zero, suc, ◌+◌, ◌-◌, ◌*◌, ◌/◌, ◌==◌, List, if◌then◌else◌, nat_lt, sum_by}
 
 -- the number of bytes that hold n bits from bit o on
 unfoldable pub touched : ℕ → ℕ → ℕ

@@ -1,17 +1,12 @@
 //! Laws of the definitions. Each is the contract of a function with an empty body.
-ghost use Rattle.std.specs.Prelude.{◌≡◌, ◌↔◌, ℕ, ◌+◌, ◌-◌, ◌*◌, ◌/◌, ◌%◌, ◌<◌, ◌≤◌, ◌^◌, List, ◌∷◌, [], ◌++◌, Bool, true, length, codes, count_by, false, replicate, slice_get, slice_index, Some, take, IsTrue};
+ghost use Rattle.std.specs.Prelude.{◌≡◌, ◌↔◌, ℕ, ◌+◌, ◌-◌, ◌*◌, ◌/◌, ◌%◌, ◌<◌, ◌≤◌, ◌^◌, List, ◌∷◌, [], ◌++◌, Bool, true, length, codes, count_by, false, replicate, slice_get, slice_index, Some, take, IsTrue, flat_map};
 ghost use Rattle.std.specs.Bool.{beq};
 ghost use Rattle.std.specs.Cmp.Lexicographic.{pointwise};
 ghost use Rattle.std.specs.Int.{div_ceil};
-ghost use Rattle.std.specs.List.{flat_map};
-ghost use Rattle.arrow2_model.specs.Bits.{bit, bits, num, unnum, sum_of_powers};
-ghost use Rattle.arrow2_model.specs.Parts.{part, falses};
-ghost use Rattle.arrow2_model.specs.Storage.{BitmapStorage, items_of};
-ghost use Rattle.arrow2_model.specs.Words.{words, full_words, rest};
-ghost use Rattle.arrow2_model.specs.Kernels.{word, kernel};
+ghost use Rattle.arrow2_model.specs.Lists.{bit, bits, num, unnum, sum_of_powers, part, falses, BitmapStorage, items_of, words, full_words, rest, word, canonical_bytes};
+ghost use Rattle.arrow2_model.specs.Kernels.{kernel};
 ghost use Rattle.arrow2_model.specs.Touched.{touched, slice_reads, cut_reads, lg, cut_budget, HoldsBit};
 ghost use Rattle.arrow2_model.specs.Tables.{each, IsBitwise};
-ghost use Rattle.arrow2_model.specs.Canonical.{canonical_bytes};
 ghost use Rattle.arrow2_model.specs.Shown.{shown, items_text};
 
 /// A part of a part of a list is a part of that list, and starts at the sum of both indices.

@@ -1,10 +1,8 @@
 -- Casts item by item: one item more.
-use Rattle.std.proofs.Common.{◌≡◌, ℕ, zero, suc, ◌+◌, ◌<◌, List, [], ◌∷◌, ◌++◌, length, take, get_or, refl, ap, sym, subst, arith, add-one, inl, inr}
-use Rattle.std.specs.Prelude.{◌⊎◌, ℤ, Option, Some, None, All, Result, Ok, Err, IfOk, IfErr}
+use Rattle.std.proofs.Common.{◌≡◌, ℕ, zero, suc, ◌+◌, ◌<◌, List, [], ◌∷◌, ◌++◌, length, take, get_or, refl, ap, sym, subst, arith, add-one, inl, inr, ◌⊎◌, ℤ, Option, Some, None, All, Result, Ok, Err, IfOk, IfErr, get_or-take, length-take}
 use Rattle.std.specs.List.{AllZip}
 use Rattle.std.proofs.lemmas.Bool.{cases_order}
 use Rattle.std.proofs.lemmas.List.Elements.{All-head, All-tail}
-use Rattle.std.proofs.lemmas.List.{get_or-take, length-take}
 use Rattle.arrow2_types.specs.Failures.{IsInvalidArgumentOrOutOfMemory}
 use Rattle.arrow2_types.specs.declared.error.Error.{Error}
 use Rattle.arrow2_types.specs.declared.error.Error.TheVariants.{OutOfMemory}

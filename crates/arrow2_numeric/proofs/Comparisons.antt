@@ -1,6 +1,5 @@
 -- What a test returns for each value, with the validity.
-use Rattle.std.proofs.Common.{◌≡◌, List, [], ◌∷◌, Bool, true, false, map, refl, ap}
-use Rattle.std.specs.Prelude.{Some, None, option_map}
+use Rattle.std.proofs.Common.{◌≡◌, List, [], ◌∷◌, Bool, true, false, map, refl, ap, Some, None, option_map}
 use Rattle.arrow2_walks.specs.Zipped.{zipped}
 
 -- a function of each value that is there

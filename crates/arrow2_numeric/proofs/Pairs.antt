@@ -1,10 +1,8 @@
 -- Results of two arrays, index by index, with the validity of both.
-use Rattle.std.proofs.Common.{◌≡◌, ℕ, ◌<◌, List, [], ◌∷◌, Bool, true, false, length, get_or, refl, ap, sym, ◌∙◌, arith}
-use Rattle.std.specs.Prelude.{◌&&◌, Some, None}
+use Rattle.std.proofs.Common.{◌≡◌, ℕ, ◌<◌, List, [], ◌∷◌, Bool, true, false, length, get_or, refl, ap, sym, ◌∙◌, arith, ◌&&◌, Some, None, ext_get_or}
 use Rattle.std.specs.Simd.Lanes.{zip2}
-use Rattle.std.proofs.lemmas.List.{ext_get_or}
 use Rattle.std.proofs.lemmas.Simd.{length-zip2, get_or-zip2}
-use Rattle.arrow2_model.specs.Bits.{bit}
+use Rattle.arrow2_model.specs.Lists.{bit}
 use Rattle.arrow2_model.specs.Tables.{answer, each}
 use Rattle.arrow2_model.proofs.Kernels.{each_from}
 use Rattle.arrow2_walks.specs.Zipped.{zipped}

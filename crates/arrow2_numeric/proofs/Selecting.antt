@@ -1,16 +1,12 @@
 -- What a mask selects word by word, and by the indices of the bits that are set.
-use Rattle.std.proofs.Common.{◌≡◌, ℕ, zero, suc, ◌+◌, ◌-◌, ◌<◌, ◌≤◌, ◌^◌, List, [], ◌∷◌, ◌++◌, Bool, true, false, cond, length, take, drop, get_or, replicate, refl, ap, sym, subst, ◌∙◌, append_assoc, arith, add-one}
-use Rattle.std.specs.Prelude.{Option, Some, None, unwrap_or}
+use Rattle.std.proofs.Common.{◌≡◌, ℕ, zero, suc, ◌+◌, ◌-◌, ◌<◌, ◌≤◌, ◌^◌, List, [], ◌∷◌, ◌++◌, Bool, true, false, cond, length, take, drop, get_or, replicate, refl, ap, sym, subst, ◌∙◌, append_assoc, arith, add-one, Option, Some, None, unwrap_or, append-nil, length-append, take_all}
 use Rattle.std.proofs.Math.Seq.{drop-append_seam, take-append_seam}
-use Rattle.std.proofs.lemmas.List.{append-nil, length-append, take_all}
 use Rattle.std.specs.List.{All, filter, flat_map, range_with_len}
 use Rattle.std.proofs.lemmas.List.Elements.{All-filter}
 use Rattle.std.proofs.lemmas.List.FromFn.{get_or-range_with_len, length-range_with_len}
-use Rattle.arrow2_model.specs.Bits.{bit, unnum}
-use Rattle.arrow2_model.specs.Words.{PassesItems, rest}
+use Rattle.arrow2_model.specs.Lists.{bit, unnum, PassesItems, rest, part}
 use Rattle.arrow2_model.proofs.Bits.{get_or-unnum, length-unnum}
 use Rattle.arrow2_model.proofs.Words.{length-rest}
-use Rattle.arrow2_model.specs.Parts.{part}
 use Rattle.arrow2_chunk.specs.Ones.{ones}
 use Rattle.arrow2_walks.specs.Selections.{non_null_values, selection}
 use Rattle.arrow2_walks.specs.Zipped.{slot, zipped}

@@ -1,11 +1,9 @@
 -- Sums of lists of numbers, and their range.
-use Rattle.std.proofs.Common.{◌≡◌, ℕ, ◌+◌, ◌-◌, ◌*◌, ◌^◌, ◌<◌, ◌≤◌, List, [], ◌∷◌, ◌++◌, length, get_or, refl, ap, sym, subst, ◌∙◌, arith, pos, ◌+ℤ◌, ◌≤ℤ◌}
-use Rattle.std.specs.Prelude.{Option, Some, None, ℤ, negsuc, FitsSigned}
+use Rattle.std.proofs.Common.{◌≡◌, ℕ, ◌+◌, ◌-◌, ◌*◌, ◌^◌, ◌<◌, ◌≤◌, List, [], ◌∷◌, ◌++◌, length, get_or, refl, ap, sym, subst, ◌∙◌, arith, pos, ◌+ℤ◌, ◌≤ℤ◌, Option, Some, None, ℤ, negsuc, FitsSigned, flat_map}
 use Rattle.std.specs.Int.{w128}
-use Rattle.std.specs.List.{flat_map}
 use Rattle.std.proofs.lemmas.Int.{ints}
 use Rattle.std.proofs.Math.IntN.{+ℤ_idl, +ℤ_idr, +ℤ_assoc}
-use Rattle.arrow2_model.specs.Parts.{part}
+use Rattle.arrow2_model.specs.Lists.{part}
 use Rattle.arrow2_walks.specs.Selections.{non_null_values}
 use Rattle.arrow2_numeric.specs.Aggregates.{sum_of, sum_of_non_null, IsInSumRange}
 use Rattle.arrow2_numeric.proofs.Selecting.{one-at}

@@ -1,6 +1,6 @@
 -- Values in blocks, each with the word of a mask.
 use Rattle.std.specs.Prelude.{◌≡◌, ◌⊎◌, ℕ, ◌+◌, ◌-◌, ◌<◌, ◌≤◌, List, [], ◌++◌, Bool, false, length, take, drop, replicate}
-use Rattle.arrow2_model.specs.Bits.{unnum}
+use Rattle.arrow2_model.specs.Lists.{unnum}
 use Rattle.arrow2_walks.specs.Selections.{selection}
 
 -- the blocks still to come: their values, and the items of the mask for these values

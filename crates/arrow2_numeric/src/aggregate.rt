@@ -4,8 +4,7 @@ ghost use Rattle.std.specs.Int.{w128};
 ghost use Rattle.std.specs.Option.{option_map_or};
 ghost use Rattle.std.specs.Ordering.{is_le, is_ge, ord_min, ord_max};
 ghost use Rattle.arrow2_numeric.specs.Aggregates.{best_from, sum_of, sum_of_non_null, IsExtremum, IsInSumRange};
-ghost use Rattle.arrow2_model.specs.Bits.{unnum};
-ghost use Rattle.arrow2_model.specs.Storage.{items_of};
+ghost use Rattle.arrow2_model.specs.Lists.{unnum, items_of};
 ghost use Rattle.arrow2_primitive.specs.Primitive.{primitive_items};
 ghost use Rattle.arrow2_walks.specs.Selections.{non_null_values, selection};
 

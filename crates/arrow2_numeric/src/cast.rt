@@ -1,7 +1,6 @@
 //! Casts of numbers from one native type to another.
-ghost use Rattle.std.specs.Prelude.{◌≡◌, ◌↔◌, ℕ, count_by, IfOk, IfErr, IsNone, IsOk, MatchBool, OnOk, All};
+ghost use Rattle.std.specs.Prelude.{◌≡◌, ◌↔◌, ℕ, count_by, IfOk, IfErr, IsNone, IsOk, MatchBool, OnOk, All, is_none};
 ghost use Rattle.std.specs.List.{AllZip};
-ghost use Rattle.std.specs.Option.{is_none};
 ghost use Rattle.arrow2_types.specs.Failures.{IsInvalidArgumentOrOutOfMemory, OnlyOutOfMemory};
 ghost use Rattle.arrow2_datatypes.specs.Types.{physical};
 ghost use Rattle.arrow2_datatypes.specs.declared.physical_type.PhysicalType.TheVariants.{Primitive};

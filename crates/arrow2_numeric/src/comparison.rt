@@ -6,9 +6,8 @@ ghost use Rattle.std.specs.Simd.Lanes.{zip2};
 ghost use Rattle.arrow2_array.specs.Items.{boolean_items};
 ghost use Rattle.arrow2_bitmap.specs.Predicates.{IsCallableWithEach, ReturnsOnEach, IsResultAt};
 ghost use Rattle.arrow2_numeric.specs.Pairs.{IsTestedAt, AlwaysReturns, of_both};
-ghost use Rattle.arrow2_model.specs.Buffers.{buffer_items};
+ghost use Rattle.arrow2_model.specs.Lists.{buffer_items, items_of};
 ghost use Rattle.arrow2_primitive.specs.Primitive.{primitive_items};
-ghost use Rattle.arrow2_model.specs.Storage.{items_of};
 ghost use Rattle.arrow2_types.specs.Failures.{OnlyOutOfMemory};
 
 use arrow2_array::BooleanArray;

@@ -1,6 +1,6 @@
 //! Values in blocks, and with each block the items of a mask for its values.
 ghost use Rattle.std.specs.Prelude.{◌≡◌, [], length, IfSome, IsNone};
-ghost use Rattle.arrow2_model.specs.Storage.{items_of};
+ghost use Rattle.arrow2_model.specs.Lists.{items_of};
 ghost use Rattle.arrow2_numeric.specs.MaskedBlocks.{BlocksLeft, IsNextBlock, selected_left};
 
 use arrow2_bitmap::Bitmap;

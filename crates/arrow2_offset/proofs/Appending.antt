@@ -1,6 +1,5 @@
 -- Vectors of offsets that grow.
-use Rattle.std.proofs.Common.{◌≡◌, ℕ, ◌+◌, ◌-◌, ◌<◌, ◌≤◌, List, [], ◌∷◌, ◌++◌, map, length, sum, take, get_or, ap, sym, ◌∙◌, arith}
-use Rattle.std.specs.Prelude.{ℤ, pos, ◌≤ℤ◌, unsigned_abs}
+use Rattle.std.proofs.Common.{◌≡◌, ℕ, ◌+◌, ◌-◌, ◌<◌, ◌≤◌, List, [], ◌∷◌, ◌++◌, map, length, sum, take, get_or, ap, sym, ◌∙◌, arith, ℤ, pos, ◌≤ℤ◌, unsigned_abs}
 use Rattle.std.proofs.lemmas.Int.{ints}
 use Rattle.std.proofs.lemmas.List.{length-map, map-append, append_assoc, get_or-map, take-append-le}
 use Rattle.arrow2_offset.specs.Offsets.{AreOffsets, start_of, lengths_of, last_of, offset_at}

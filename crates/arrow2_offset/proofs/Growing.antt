@@ -1,13 +1,10 @@
 -- Vectors of offsets as their numbers: the results of growing and cutting.
-use Rattle.std.proofs.Common.{◌≡◌, ℕ, zero, suc, ◌+◌, ◌-◌, ◌<◌, ◌≤◌, List, [], ◌∷◌, ◌++◌, map, length, sum, take, drop, get_or, replicate, Bool, false, ap, sym, ◌∙◌, refl, arith, add-one}
-use Rattle.std.specs.Prelude.{ℤ, pos, ◌≤ℤ◌, ◌-ℤ◌}
+use Rattle.std.proofs.Common.{◌≡◌, ℕ, zero, suc, ◌+◌, ◌-◌, ◌<◌, ◌≤◌, List, [], ◌∷◌, ◌++◌, map, length, sum, take, drop, get_or, replicate, Bool, false, ap, sym, ◌∙◌, refl, arith, add-one, ℤ, pos, ◌≤ℤ◌, ◌-ℤ◌, to_z, of_z}
 use Rattle.std.specs.Int as integers
 use Rattle.std.specs.Int.Signed.{lt_z}
-use Rattle.std.proofs.Common.{to_z, of_z}
 use Rattle.std.proofs.lemmas.Int.{ints}
 use Rattle.std.proofs.lemmas.List.{append-nil, length-map, length-replicate, map-append, take-map, take_all}
-use Rattle.arrow2_model.specs.Parts.{part}
-use Rattle.arrow2_model.specs.Buffers.{BufferStorage, buffer_items, whole_buffer}
+use Rattle.arrow2_model.specs.Lists.{part, BufferStorage, buffer_items, whole_buffer}
 use Rattle.arrow2_offset.specs.Offsets.{running_sums, offsets_list, numbers_of, AreOffsets, AreOffsetsUpTo, start_of, lengths_of, offset_at, last_of}
 use Rattle.arrow2_offset.proofs.OffsetLists.{Spells, spells, spelled, length-lengths_of, get_or-offsets, repeat_spells, take_spells, part_spells, map-replicate, sum-append, sum-cons}
 use Rattle.arrow2_model.proofs.Parts.{part-map}

@@ -1,13 +1,11 @@
 -- Lists one after the other: how many, index by index, in parts, and with others after them; and the ruleset that a
 -- column of texts or of lists names in `using`.
-use Rattle.std.proofs.Common.{◌≡◌, ℕ, zero, suc, ◌+◌, ◌-◌, ◌<◌, ◌≤◌, List, [], ◌∷◌, ◌++◌, length, sum, take, drop, get_or, refl, ap, sym, ◌∙◌, arith, add-zero}
+use Rattle.std.proofs.Common.{◌≡◌, ℕ, zero, suc, ◌+◌, ◌-◌, ◌<◌, ◌≤◌, List, [], ◌∷◌, ◌++◌, length, sum, take, drop, get_or, refl, ap, sym, ◌∙◌, arith, add-zero, Some, None, slice_get}
 use Rattle.std.proofs.Math.Seq.{take-length}
 use Rattle.std.proofs.lemmas.Option.{slice_get-get_or, slice_get_past}
 use Rattle.std.proofs.lemmas.List.{length-take, take_all, get_or-take, get_or-drop, take-append-le, drop-append-le, length-drop, drop-take, drop-drop, take-take}
 use Rattle.std.proofs.lemmas.List.Sums.{sum_by-cons, sum_by-take-drop}
-use Rattle.std.specs.Prelude.{Some, None}
-use Rattle.std.specs.List.{slice_get}
-use Rattle.arrow2_model.specs.Parts.{part}
+use Rattle.arrow2_model.specs.Lists.{part}
 use Rattle.arrow2_offset.specs.NestedLists.{cut}
 
 sum-first : (start n : ℕ) (ns : List ℕ) → start + n + sum ns ≡ start + sum (n ∷ ns)

@@ -1,8 +1,7 @@
 -- The laws of offsets.
-use Rattle.std.proofs.Common.{◌≡◌, ◌↔◌, ℕ, ℤ, ◌+◌, ◌≤◌, List, ◌∷◌, ◌++◌, map, length, ap, sym, ◌∙◌, arith}
+use Rattle.std.proofs.Common.{◌≡◌, ◌↔◌, ℕ, ℤ, ◌+◌, ◌≤◌, List, ◌∷◌, ◌++◌, map, length, ap, sym, ◌∙◌, arith, pos}
 use Rattle.std.proofs.Math.Seq.{take-length}
-use Rattle.std.specs.Prelude.{pos}
-use Rattle.arrow2_model.specs.Buffers.{BufferStorage, buffer_items, whole_buffer}
+use Rattle.arrow2_model.specs.Lists.{BufferStorage, buffer_items, whole_buffer}
 use Rattle.arrow2_offset.specs.Offsets.{running_sums, offsets_list, offset_at, last_offset, start_of, lengths_of, GrowingOffsets, SameOffsets, offsets_of}
 use Rattle.arrow2_offset.proofs.OffsetLists.{spelled, AreOffsets-list, lengths_of-list, start_of-list, running_sums-append, length-running_sums, get_or-offsets_list}
 use Rattle.arrow2_offset.proofs.Growing.{sum-take-le}

@@ -1,12 +1,11 @@
 -- Lists of offsets, their starts and their lengths.
-use Rattle.std.proofs.Common.{◌≡◌, ℕ, zero, suc, ◌+◌, ◌-◌, ◌<◌, ◌≤◌, List, [], ◌∷◌, ◌++◌, map, length, take, drop, get_or, sum, replicate, refl, ap, sym, ◌∙◌, arith, subst, add-one}
-use Rattle.std.specs.Prelude.{ℤ, pos, negsuc, ◌≤ℤ◌, unsigned_abs, slice_index_or}
+use Rattle.std.proofs.Common.{◌≡◌, ℕ, zero, suc, ◌+◌, ◌-◌, ◌<◌, ◌≤◌, List, [], ◌∷◌, ◌++◌, map, length, take, drop, get_or, sum, replicate, refl, ap, sym, ◌∙◌, arith, subst, add-one, ℤ, pos, negsuc, ◌≤ℤ◌, unsigned_abs, slice_index_or}
 use Rattle.std.specs.Int.{int_gap}
 use Rattle.std.proofs.lemmas.Int.{ints}
 use Rattle.std.proofs.lemmas.List.{length-map, map-append, get_or-map}
 use Rattle.std.proofs.lemmas.List.Sums.{sum_by-append, sum_by-cons}
 use Rattle.std.proofs.Math.Seq.{take-length}
-use Rattle.arrow2_model.specs.Parts.{part}
+use Rattle.arrow2_model.specs.Lists.{part}
 use Rattle.arrow2_model.proofs.Parts.{part-map}
 use Rattle.arrow2_offset.specs.Offsets.{running_sums, offsets_list, offset_at, AreOffsets, start_of, gaps_after, lengths_of, last_of}
 

@@ -1,7 +1,5 @@
 -- The results of comparisons of numbers, whether a list rises, and whether it is offsets.
-use Rattle.std.proofs.Common.{◌≡◌, inl, inr, ℕ, zero, suc, ◌+◌, ◌-◌, ◌<◌, ◌≤◌, ◌↔◌, List, Bool, true, false, ◌&&◌, Option, Some, map, length, get_or, ap, ◌∙◌, refl, arith, add-one}
-use Rattle.std.specs.Prelude.{ℤ, pos, negsuc, ◌<ℤ◌, ◌≤ℤ◌, slice_index_or}
-use Rattle.std.specs.Bool.{IsTrue}
+use Rattle.std.proofs.Common.{◌≡◌, inl, inr, ℕ, zero, suc, ◌+◌, ◌-◌, ◌<◌, ◌≤◌, ◌↔◌, List, Bool, true, false, ◌&&◌, Option, Some, map, length, get_or, ap, ◌∙◌, refl, arith, add-one, ℤ, pos, negsuc, ◌<ℤ◌, ◌≤ℤ◌, slice_index_or, IsTrue}
 use Rattle.std.specs.Ordering.{MatchOrdering, is_some_and, int_cmp, is_le, is_lt, partial_le, partial_lt}
 use Rattle.std.specs.declared.cmp.Ordering.{Ordering}
 use Rattle.std.specs.declared.cmp.Ordering.TheVariants.{Less, Equal, Greater}

@@ -1,8 +1,5 @@
 -- The result of `==` of offsets.
-use Rattle.std.proofs.Common.{◌≡◌, ◌↔◌, ℕ, List, [], ◌∷◌, Bool, map, refl, ap, ◌∙◌}
-use Rattle.std.specs.Prelude.{ℤ, pos, nat_eq, unsigned_abs}
-use Rattle.std.specs.Bool.{IsTrue}
-use Rattle.std.specs.Ordering.{int_eq}
+use Rattle.std.proofs.Common.{◌≡◌, ◌↔◌, ℕ, List, [], ◌∷◌, Bool, map, refl, ap, ◌∙◌, ℤ, pos, nat_eq, unsigned_abs, IsTrue, int_eq}
 use Rattle.std.specs.Cmp.Lexicographic.{pointwise}
 use Rattle.std.proofs.lemmas.Bool.Decides.{same_from_decides, Decides-eqb, Decides-int_eq}
 use Rattle.std.proofs.lemmas.Slice.Eq.{slice_eq-Decides}

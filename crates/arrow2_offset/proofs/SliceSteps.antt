@@ -1,10 +1,9 @@
 -- Offsets and lengths written one by one.
-use Rattle.std.proofs.Common.{◌≡◌, ℕ, ◌+◌, ◌-◌, ◌<◌, ◌≤◌, List, map, length, sum, take, drop, get_or, set, ap, sym, ◌∙◌, arith, add-one}
-use Rattle.std.specs.Prelude.{ℤ, pos, ◌≤ℤ◌, ◌-ℤ◌}
+use Rattle.std.proofs.Common.{◌≡◌, ℕ, ◌+◌, ◌-◌, ◌<◌, ◌≤◌, List, map, length, sum, take, drop, get_or, set, ap, sym, ◌∙◌, arith, add-one, ℤ, pos, ◌≤ℤ◌, ◌-ℤ◌}
 use Rattle.std.proofs.lemmas.Int.{ints}
 use Rattle.std.proofs.lemmas.List.{ext_get_or, get_or-map, length-map, map-set, length-take-le, length-drop}
 use Rattle.arrow2_offset.specs.Offsets.{AreOffsets, lengths_of, offset_at, last_of, offsets_list, start_of}
-use Rattle.arrow2_model.specs.Parts.{part}
+use Rattle.arrow2_model.specs.Lists.{part}
 use Rattle.arrow2_offset.proofs.OffsetLists.{get_or-offsets, get_or-offsets_list, length-lengths_of, length-running_sums, part_spells}
 use Rattle.arrow2_model.proofs.Parts.{get_or-part}
 use Rattle.arrow2_offset.proofs.Appending.{value_at}

@@ -2,7 +2,7 @@
 -- offset j to offset j + 1, so that n slots have n + 1 offsets, which never decrease).
 use Rattle.std.specs.Prelude.{◌≡◌, ℕ, ◌+◌, ◌<◌, ◌≤◌, ◌++◌, ℤ, pos, ◌≤ℤ◌, List, [], ◌∷◌, length, map, sum, take, slice_index_or, unsigned_abs}
 use Rattle.std.specs.Int.{int_gap}
-use Rattle.arrow2_model.specs.Buffers.{BufferStorage}
+use Rattle.arrow2_model.specs.Lists.{BufferStorage}
 
 -- start + the first length, then + the second, and so on
 unfoldable pub running_sums : ℕ → List ℕ → List ℕ

@@ -1,7 +1,7 @@
 //! Offsets of 32 bits as offsets of 64 bits, and back.
 ghost use Rattle.std.specs.Prelude.{◌≡◌, ◌<◌, ◌≤◌, ◌↔◌, ◌⊎◌, IfOk, IsErrOf, MatchResult};
 ghost use Rattle.arrow2_types.specs.declared.error.Error.TheVariants.{Overflow, OutOfMemory};
-ghost use Rattle.arrow2_model.specs.Buffers.{buffer_items, whole_buffer};
+ghost use Rattle.arrow2_model.specs.Lists.{buffer_items, whole_buffer};
 ghost use Rattle.arrow2_offset.specs.Offsets.{AreOffsetsUpTo, last_of, last_of_growing, SameOffsets};
 
 use crate::immutable::OffsetsBuffer;

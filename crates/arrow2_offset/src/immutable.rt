@@ -6,8 +6,7 @@ ghost use Rattle.std.specs.Cmp.Lexicographic.{pointwise, lists_equiv};
 ghost use Rattle.either.specs.Either.{MatchEither};
 ghost use Rattle.arrow2_types.specs.declared.error.Error.TheVariants.{OutOfMemory};
 ghost use Rattle.arrow2_offset.specs.Failures.{RejectsNumbers, RejectsOrRunsOut};
-ghost use Rattle.arrow2_model.specs.Parts.{part};
-ghost use Rattle.arrow2_model.specs.Buffers.{buffer_items, whole_buffer};
+ghost use Rattle.arrow2_model.specs.Lists.{part, buffer_items, whole_buffer};
 ghost use Rattle.arrow2_offset.specs.Offsets.{AreOffsets, AreOffsetsUpTo, offset_at, offsets_of, offsets_list, start_of, lengths_of, last_of, numbers_of};
 ghost use Rattle.arrow2_types.specs.Failures.{OnlyOutOfMemory};
 
@@ -47,7 +46,7 @@ pub struct OffsetsBuffer<O: Offset> {
 
 impl<O: Offset> Model for OffsetsBuffer<O> {
     ghost use Rattle.std.specs.Prelude.{ℤ};
-    ghost use Rattle.arrow2_model.specs.Buffers.{BufferStorage, buffer_items};
+    ghost use Rattle.arrow2_model.specs.Lists.{BufferStorage, buffer_items};
     ghost use Rattle.arrow2_offset.specs.Offsets.{AreOffsetsUpTo, numbers_of};
 
     ghost Value = { BufferStorage ℤ };

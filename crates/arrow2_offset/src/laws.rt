@@ -1,6 +1,6 @@
 //! Laws of the definitions of offsets. Each is the contract of a function with an empty body.
 ghost use Rattle.std.specs.Prelude.{◌≡◌, ℕ, ℤ, ◌+◌, ◌≤◌, ◌++◌, ◌↔◌, List, length, map, pos, slice_index_or};
-ghost use Rattle.arrow2_model.specs.Buffers.{BufferStorage, buffer_items, whole_buffer};
+ghost use Rattle.arrow2_model.specs.Lists.{BufferStorage, buffer_items, whole_buffer};
 ghost use Rattle.arrow2_offset.specs.Offsets.{running_sums, offsets_list, offset_at, last_offset, AreOffsets, start_of, lengths_of, GrowingOffsets, SameOffsets, offsets_of};
 
 /// A list of signed numbers is a list of offsets exactly if it is the `offsets_list` of some start and some lengths.

@@ -1,13 +1,11 @@
 //! Offsets that grow.
-ghost use Rattle.std.specs.Prelude.{◌≡◌, ◌+◌, ◌-◌, ◌<◌, ◌≤◌, ◌^◌, ◌≤ℤ◌, ◌↔◌, ◌⊎◌, [], ◌∷◌, length, map, sum, take, pos, replicate, slice_index_or, unsigned_abs, OnOk, IsOk, IfOk, IsErrOf, IsTrue, MatchOption, MatchResult, vec_capacity};
+ghost use Rattle.std.specs.Prelude.{◌≡◌, ◌+◌, ◌-◌, ◌<◌, ◌≤◌, ◌^◌, ◌≤ℤ◌, ◌↔◌, ◌⊎◌, [], ◌∷◌, length, map, sum, take, pos, replicate, slice_index_or, unsigned_abs, OnOk, IsOk, IfOk, IsErrOf, IsTrue, MatchOption, MatchResult, vec_capacity, nat_eq};
 ghost use Rattle.std.specs.Iterator.{IsFinite, IsFiniteIterable};
 ghost use Rattle.std.specs.Iterator.Runs.{WholeRun};
 ghost use Rattle.std.specs.Ordering.{on};
-ghost use Rattle.std.specs.Prelude.{nat_eq};
 ghost use Rattle.std.specs.Cmp.{partial_equiv_from_equiv, nat_eq_equiv, on_equiv};
 ghost use Rattle.std.specs.Cmp.Lexicographic.{pointwise, lists_equiv};
-ghost use Rattle.arrow2_model.specs.Parts.{part};
-ghost use Rattle.arrow2_model.specs.Buffers.{buffer_items};
+ghost use Rattle.arrow2_model.specs.Lists.{part, buffer_items};
 ghost use Rattle.arrow2_offset.specs.Offsets.{AreOffsets, offset_at, AreOffsetsUpTo, offsets_of, last_of_growing, start_of, lengths_of, slots, SameOffsets, GrownBy};
 ghost use Rattle.arrow2_offset.specs.Iterators.{MayYieldPast};
 ghost use Rattle.arrow2_offset.specs.Growth.{Grows, GrowsUpTo, GrowsByIterator};

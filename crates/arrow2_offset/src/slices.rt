@@ -2,7 +2,7 @@
 //!
 //! arrow2 has these loops only inside its offsets.
 ghost use Rattle.std.specs.Prelude.{◌≡◌, ◌+◌, ◌-◌, ◌*◌, ◌<◌, ◌≤◌, ◌↔◌, pos, map, length, sum, IsTrue};
-ghost use Rattle.arrow2_model.specs.Parts.{part};
+ghost use Rattle.arrow2_model.specs.Lists.{part};
 ghost use Rattle.arrow2_offset.specs.Offsets.{AreOffsets, AreOffsetsUpTo, last_of, last_offset, lengths_of, offsets_list};
 
 use arrow2_index::Offset;

@@ -1,19 +1,15 @@
 -- The bytes of packed bits.
-use Rattle.std.proofs.Common.{◌≡◌, ◌≢◌, ◌∙◌, ℕ, zero, suc, ◌+◌, ◌-◌, ◌*◌, ◌/◌, ◌%◌, ◌^◌, ◌<◌, ◌≤◌, List, [], ◌∷◌, ◌++◌, Bool, true, false, take, replicate, length, get_or, set, refl, subst, sym, ap, inl, inr, arith}
-use Rattle.std.specs.Prelude.{pos, bit_and, bit_or, max, ◌==◌}
+use Rattle.std.proofs.Common.{◌≡◌, ◌≢◌, ◌∙◌, ℕ, zero, suc, ◌+◌, ◌-◌, ◌*◌, ◌/◌, ◌%◌, ◌^◌, ◌<◌, ◌≤◌, List, [], ◌∷◌, ◌++◌, Bool, true, false, take, replicate, length, get_or, set, refl, subst, sym, ap, inl, inr, arith, pos, bit_and, bit_or, max, ◌==◌}
 use Rattle.std.proofs.lemmas.Bool.{cases_lt, cases_eq}
-use Rattle.std.specs.Int.{from_bool}
+use Rattle.std.specs.Int.{from_bool, bit_at}
 use Rattle.std.proofs.lemmas.List.FromFn.{get_or-map-range_with_len}
 use Rattle.std.proofs.lemmas.Nat.Bits.{bit_at_or, bit_at_ones, bit_at_cat_low, bit_at_cat_high, bit_at-zero, bit_at-lt}
-use Rattle.std.specs.Int.{bit_at}
 use Rattle.std.proofs.Math.Nat.{mod-le}
-use Rattle.std.proofs.lemmas.List.{length-take, length-take-le, length-set, length-replicate, take_more, get_or-take, get_or-set_same, get_or-set_other, get_or-replicate, get_or_append_left, get_or-append_right, get_or_past}
+use Rattle.std.proofs.lemmas.List.{length-take, length-take-le, length-set, length-replicate, take_more, get_or-take, get_or-set_same, get_or-set_other, get_or-replicate, get_or_append_left, get_or-append_right, get_or_past, take-set-le}
 use Rattle.std.proofs.Math.Seq.{take-set-lt}
-use Rattle.std.proofs.lemmas.List.{take-set-le}
 use Rattle.std.proofs.lemmas.Grind.{get_or_default_zero}
 use Rattle.std.proofs.lemmas.Nat.{or_of_8, and_mask, pow_pos}
-use Rattle.arrow2_model.specs.Bits.{bit, bits, unnum}
-use Rattle.arrow2_model.specs.Canonical.{IsCanonical}
+use Rattle.arrow2_model.specs.Lists.{bit, bits, unnum, IsCanonical}
 use Rattle.arrow2_model.specs.Digits.{low_digits, digits}
 use Rattle.arrow2_model.proofs.Bits.{bit_is, length-bits, bits-set}
 use Rattle.arrow2_model.proofs.Canonical.{canonical-nil, pushed_byte, pushed_bit, cut_whole, cut_within}

@@ -2,8 +2,7 @@
 use Rattle.std.proofs.Common.{◌≡◌, ◌∙◌, ℕ, ◌+◌, ◌-◌, ◌*◌, ◌/◌, ◌<◌, ◌≤◌, ◌⊎◌, inl, inr, List, ◌++◌, Bool, false, true, take, replicate, length, get_or, ap, sym, arith}
 use Rattle.std.proofs.lemmas.Bool.{cases_lt}
 use Rattle.std.proofs.lemmas.List.{length-append, length-take-le, length-replicate, take-replicate, get_or-take, get_or_append_left, get_or-append_right, get_or-replicate, get_or_past, ext_get_or, take_all}
-use Rattle.arrow2_model.specs.Bits.{bits}
-use Rattle.arrow2_model.specs.Canonical.{IsCanonical}
+use Rattle.arrow2_model.specs.Lists.{bits, IsCanonical}
 use Rattle.arrow2_model.proofs.Bits.{bits-append, length-bits}
 use Rattle.arrow2_model.proofs.Bytes.{bits-ones, bits-zeros, front-zeros}
 use Rattle.arrow2_model.proofs.Parts.{get_or-padded}

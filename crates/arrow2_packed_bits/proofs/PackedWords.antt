@@ -1,12 +1,11 @@
 -- Items as bytes, 64 at a time.
-use Rattle.std.proofs.Common.{◌≡◌, ◌∙◌, ℕ, zero, suc, ◌+◌, ◌-◌, ◌*◌, ◌/◌, ◌^◌, ◌<◌, ◌≤◌, Option, Some, List, [], ◌∷◌, ◌++◌, Bool, true, false, map, take, drop, length, get_or, not, refl, ap, sym, subst, arith}
-use Rattle.std.proofs.Math.Dec.{eqb}
+use Rattle.std.proofs.Common.{◌≡◌, ◌∙◌, ℕ, zero, suc, ◌+◌, ◌-◌, ◌*◌, ◌/◌, ◌^◌, ◌<◌, ◌≤◌, Option, Some, List, [], ◌∷◌, ◌++◌, Bool, true, false, map, take, drop, length, get_or, not, refl, ap, sym, subst, arith, eqb}
 use Rattle.std.specs.Int.{from_bool}
 use Rattle.std.specs.Iterator.{Yields, YieldsThen}
 use Rattle.std.specs.Simd.{first_chunks}
 use Rattle.std.proofs.lemmas.List.{take-append-drop, append_assoc, drop-drop, take-take, length-append, length-drop, length-take-le, take_all, take_more}
 use Rattle.std.proofs.Math.Seq.{take-append-add}
-use Rattle.arrow2_model.specs.Bits.{bits, num, unnum}
+use Rattle.arrow2_model.specs.Lists.{bits, num, unnum}
 use Rattle.arrow2_model.proofs.Bits.{bits-append, length-bits}
 use Rattle.arrow2_model.proofs.Bytes.{take-bits}
 use Rattle.arrow2_model.proofs.Numbers.{unnum-num}

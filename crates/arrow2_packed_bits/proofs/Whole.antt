@@ -1,13 +1,10 @@
 -- Many items after those that bytes hold.
-use Rattle.std.proofs.Common.{◌≡◌, inl, inr, ℕ, ◌+◌, ◌-◌, ◌*◌, ◌/◌, ◌%◌, ◌<◌, ◌≤◌, List, ◌++◌, Bool, true, false, take, drop, replicate, length, get_or, refl, subst, ap, sym, ◌∙◌, arith}
+use Rattle.std.proofs.Common.{◌≡◌, inl, inr, ℕ, ◌+◌, ◌-◌, ◌*◌, ◌/◌, ◌%◌, ◌<◌, ◌≤◌, List, ◌++◌, Bool, true, false, take, drop, replicate, length, get_or, refl, subst, ap, sym, ◌∙◌, arith, take-add}
 use Rattle.std.proofs.lemmas.Bool.{cases_lt}
 use Rattle.std.proofs.lemmas.List.{length-append, length-take-le, length-drop, length-replicate, get_or-take, get_or_append_left, get_or-append_right, get_or_past, ext_get_or, take_all, take-append-le, drop_more, append_assoc, take-replicate, replicate-append-replicate}
 use Rattle.std.proofs.lemmas.Slice.{take-put_mid}
-use Rattle.std.proofs.Math.Seq.{take-add}
 use borrow.Rule.Slice.PartMut.{put_mid}
-use Rattle.arrow2_model.specs.Bits.{bits, unnum}
-use Rattle.arrow2_model.specs.Canonical.{IsCanonical}
-use Rattle.arrow2_model.specs.Parts.{part}
+use Rattle.arrow2_model.specs.Lists.{bits, unnum, IsCanonical, part}
 use Rattle.arrow2_model.proofs.Bits.{length-unnum, get_or-unnum, bits-cons, bits-append, length-bits}
 use Rattle.arrow2_model.proofs.Bytes.{take-bits, drop-bits, part-bits-drop}
 use Rattle.arrow2_model.proofs.Parts.{part-add}

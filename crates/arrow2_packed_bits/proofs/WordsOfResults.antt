@@ -3,7 +3,7 @@ use Rattle.std.proofs.Common.{◌≡◌, ℕ, ◌+◌, ◌-◌, ◌*◌, ◌<◌
 use Rattle.std.proofs.lemmas.Bool.{cases_lt}
 use Rattle.std.proofs.lemmas.List.{get_or_append_left}
 use Rattle.std.proofs.Math.Seq.{get_or-append_right}
-use Rattle.arrow2_model.specs.Bits.{bits, num, unnum}
+use Rattle.arrow2_model.specs.Lists.{bits, num, unnum}
 use Rattle.arrow2_model.proofs.Bits.{length-bits}
 use Rattle.arrow2_packed_bits.proofs.PackedWords.{block_following}
 

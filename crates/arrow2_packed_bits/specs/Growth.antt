@@ -1,6 +1,6 @@
 -- The records of growth by bits.
 use Rattle.std.specs.Prelude.{◌≡◌, ◌+◌, ◌<◌, ◌≤◌, ◌^◌, ◌↔◌, ◌⊎◌, List, ◌++◌, Bool, length, Result, OnOk, OnErr, IsOk, IfErr, IsErrOf}
-use Rattle.arrow2_model.specs.Storage.{GrowingBitmap}
+use Rattle.arrow2_model.specs.Lists.{GrowingBitmap}
 use Rattle.arrow2_types.specs.declared.growth_error.GrowthError.{GrowthError}
 use Rattle.arrow2_types.specs.declared.growth_error.GrowthError.TheVariants.{Overflow, OutOfMemory}
 

@@ -1,6 +1,6 @@
 //! Booleans that a function returns, packed 64 at a time.
 ghost use Rattle.std.specs.Prelude.{◌≡◌, ℕ, ◌+◌, ◌*◌, ◌<◌, ◌≤◌, ◌^◌, false, length, slice_index_or, IfOk, vec_len};
-ghost use Rattle.arrow2_model.specs.Bits.{bits};
+ghost use Rattle.arrow2_model.specs.Lists.{bits};
 
 use crate::packing::word_of;
 use arrow2_chunk::BitChunk;

@@ -1,8 +1,7 @@
 //! A growing list of booleans, packed into bytes.
 ghost use Rattle.std.specs.Prelude.{◌≡◌, ◌+◌, ◌-◌, ◌*◌, ◌/◌, ◌%◌, ◌<◌, ◌≤◌, ◌^◌, ◌↔◌, ◌⊎◌, ℕ, IsTrue, List, Bool, [], ◌∷◌, ◌++◌, true, false, slice_index_or, length, take, replicate, slice_set, min, OnOk, OnErr, IsOk, IfOk, IfNone, IsErrOf, MatchOption, vec_len, vec_capacity};
-ghost use Rattle.arrow2_model.specs.Bits.{bit, bits, unnum};
-ghost use Rattle.arrow2_model.specs.Canonical.{canonical_bytes, IsCanonical};
-ghost use Rattle.arrow2_model.specs.Kernels.{kernel, word};
+ghost use Rattle.arrow2_model.specs.Lists.{bit, bits, unnum, canonical_bytes, IsCanonical, word};
+ghost use Rattle.arrow2_model.specs.Kernels.{kernel};
 ghost use Rattle.arrow2_model.specs.Rows.{AreWordsOf, ComputesOwnRows, IsBitwiseOnOwnRows};
 ghost use Rattle.arrow2_kernels.specs.WordResults.{AreJoinedResults, MayReturnOwn};
 ghost use Rattle.arrow2_model.specs.Tables.{each};
@@ -38,9 +37,7 @@ pub struct PackedBits {
 
 impl Model for PackedBits {
     ghost use Rattle.std.specs.Prelude.{◌-◌, ◌*◌, ◌^◌, vec_capacity, min, take};
-    ghost use Rattle.arrow2_model.specs.Bits.{bits};
-    ghost use Rattle.arrow2_model.specs.Canonical.{IsCanonical};
-    ghost use Rattle.arrow2_model.specs.Storage.{GrowingBitmap};
+    ghost use Rattle.arrow2_model.specs.Lists.{bits, IsCanonical, GrowingBitmap};
 
     ghost Value = { GrowingBitmap };
 

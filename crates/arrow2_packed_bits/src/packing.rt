@@ -3,7 +3,7 @@ ghost use Rattle.std.specs.Prelude.{◌≡◌, ◌-◌, ◌*◌, ◌<◌, ◌≤
 ghost use Rattle.std.specs.Iterator.{IsFinite, IsNearerEnd, Yields, YieldsThen};
 ghost use Rattle.std.specs.Iterator.Runs.{WholeRun};
 ghost use Rattle.std.specs.Int.{from_bool};
-ghost use Rattle.arrow2_model.specs.Bits.{bits, num};
+ghost use Rattle.arrow2_model.specs.Lists.{bits, num};
 ghost use Rattle.arrow2_types.specs.declared.growth_error.GrowthError.TheVariants as growth_error;
 
 use arrow2_bits::bytes_for;

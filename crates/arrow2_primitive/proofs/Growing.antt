@@ -1,12 +1,9 @@
 -- Arrays that grow: values and validity, by as many items each.
-use Rattle.std.proofs.Common.{◌≡◌, ℕ, zero, suc, ◌+◌, ◌-◌, ◌<◌, List, [], ◌∷◌, ◌++◌, Bool, true, false, length, take, get_or, replicate, map, refl, ap, sym, ◌∙◌, arith}
-use Rattle.std.specs.Prelude.{Option, Some, None, ◌↔◌, is_some, unwrap_or, IsNone, IfSome}
+use Rattle.std.proofs.Common.{◌≡◌, ℕ, zero, suc, ◌+◌, ◌-◌, ◌<◌, List, [], ◌∷◌, ◌++◌, Bool, true, false, length, take, get_or, replicate, map, refl, ap, sym, ◌∙◌, arith, Option, Some, None, ◌↔◌, is_some, unwrap_or, IsNone, IfSome}
 use Rattle.std.specs.Bool.{then_some}
 use Rattle.std.proofs.Math.Nat.{min-le_left, min-le_right, le-min}
 use Rattle.std.proofs.lemmas.List.{length-map, length-replicate, length-append, length-take, map-append, take_all, take_more}
-use Rattle.arrow2_model.specs.Buffers.{BufferStorage, buffer_items}
-use Rattle.arrow2_model.specs.Parts.{part, falses}
-use Rattle.arrow2_model.specs.Storage.{BitmapStorage, items_of}
+use Rattle.arrow2_model.specs.Lists.{BufferStorage, buffer_items, part, falses, BitmapStorage, items_of}
 use Rattle.arrow2_model.proofs.Counts.{falses-none}
 use Rattle.arrow2_model.proofs.Parts.{length-part}
 use Rattle.arrow2_walks.specs.Zipped.{slot, zipped}

@@ -1,6 +1,6 @@
 -- What contracts see of arrays of native values.
 use Rattle.std.specs.Prelude.{ℕ, ◌+◌, List, Option, codes}
-use Rattle.arrow2_model.specs.Buffers.{BufferStorage, buffer_items}
+use Rattle.arrow2_model.specs.Lists.{BufferStorage, buffer_items}
 use Rattle.arrow2_walks.specs.Zipped.{zipped}
 use Rattle.arrow2_validity.specs.OptionalValidity.{OptionalValidity, valid_items, sliced_validity}
 use Rattle.arrow2_datatypes.specs.declared.DataType.{DataType}

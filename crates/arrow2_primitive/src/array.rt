@@ -1,14 +1,11 @@
 //! An array of nullable native values.
-ghost use Rattle.std.specs.Prelude.{◌≡◌, ◌+◌, ◌<◌, ◌≤◌, ◌↔◌, None, Some, length, map, count_by, replicate, true, slice_index_or, ⊤, OnOk, IsNone, IsOk, IfOk, IfSome, IsTrue, MatchOption, option_map};
-ghost use Rattle.std.specs.List.{slice_get};
+ghost use Rattle.std.specs.Prelude.{◌≡◌, ◌+◌, ◌<◌, ◌≤◌, ◌↔◌, None, Some, length, map, count_by, replicate, true, slice_index_or, ⊤, OnOk, IsNone, IsOk, IfOk, IfSome, IsTrue, MatchOption, option_map, slice_get};
 ghost use Rattle.std.specs.Option.{ForSome, is_none, is_some};
 ghost use Rattle.std.specs.Slice.Iter.{iter_rest};
 ghost use Rattle.either.specs.Either.{MatchEither};
-ghost use Rattle.arrow2_model.specs.Buffers.{buffer_items, whole_buffer};
-ghost use Rattle.arrow2_model.specs.Parts.{part};
+ghost use Rattle.arrow2_model.specs.Lists.{buffer_items, whole_buffer, part, items_of};
 ghost use Rattle.arrow2_bitmap.specs.PackedBitmaps.{IsPacked};
 ghost use Rattle.arrow2_walks.specs.Selections.{non_null_values};
-ghost use Rattle.arrow2_model.specs.Storage.{items_of};
 ghost use Rattle.arrow2_types.specs.Failures.{FailsOnlyWith, OnlyOutOfMemory};
 ghost use Rattle.arrow2_validity.specs.OptionalValidity.{valid_items};
 ghost use Rattle.arrow2_validity.specs.Failures.{unequal_lengths_message};
@@ -61,7 +58,7 @@ pub struct PrimitiveArray<T: NativeType> {
 
 impl<T: NativeType> Model for PrimitiveArray<T> {
     ghost use Rattle.std.specs.Prelude.{◌≡◌, length};
-    ghost use Rattle.arrow2_model.specs.Buffers.{buffer_items};
+    ghost use Rattle.arrow2_model.specs.Lists.{buffer_items};
     ghost use Rattle.arrow2_validity.specs.OptionalValidity.{valid_items};
     ghost use Rattle.arrow2_datatypes.specs.Types.{physical};
     ghost use Rattle.arrow2_datatypes.specs.declared.physical_type.PhysicalType.TheVariants.{Primitive};

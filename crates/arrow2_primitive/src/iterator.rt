@@ -1,6 +1,6 @@
 //! Primitive arrays, as iterators read them.
 ghost use Rattle.std.specs.Prelude.{None, Some, refl};
-ghost use Rattle.arrow2_model.specs.Buffers.{buffer_items};
+ghost use Rattle.arrow2_model.specs.Lists.{buffer_items};
 ghost use Rattle.arrow2_primitive.specs.Primitive.{primitive_items};
 
 use crate::array::PrimitiveArray;

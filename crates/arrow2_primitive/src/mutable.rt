@@ -1,12 +1,10 @@
 //! An array of native values that grows.
-ghost use Rattle.std.specs.Prelude.{◌≡◌, ◌+◌, ◌<◌, ◌≤◌, ◌^◌, ◌↔◌, ◌++◌, [], ◌∷◌, None, Some, length, map, replicate, IfOk, IfSome, IsErrOf, IsOk, IfNone, MatchOption, OnErr, OnOk, IsNone, IsTrue, count_by, Some};
-ghost use Rattle.std.specs.Option.{is_none};
+ghost use Rattle.std.specs.Prelude.{◌≡◌, ◌+◌, ◌<◌, ◌≤◌, ◌^◌, ◌↔◌, ◌++◌, [], ◌∷◌, None, Some, length, map, replicate, IfOk, IfSome, IsErrOf, IsOk, IfNone, MatchOption, OnErr, OnOk, IsNone, IsTrue, count_by, Some, is_none};
 ghost use Rattle.std.specs.Iterator.{IsFinite, IsFiniteIterable};
 ghost use Rattle.std.specs.Iterator.Runs.{WholeRun};
 ghost use Rattle.arrow2_datatypes.specs.Types.{of_primitive, physical};
 ghost use Rattle.arrow2_datatypes.specs.declared.physical_type.PhysicalType.TheVariants.{Primitive};
-ghost use Rattle.arrow2_model.specs.Buffers.{buffer_items, whole_buffer};
-ghost use Rattle.arrow2_model.specs.Parts.{part};
+ghost use Rattle.arrow2_model.specs.Lists.{buffer_items, whole_buffer, part};
 ghost use Rattle.arrow2_bitmap.specs.Iterators.{MayYieldTooMany};
 ghost use Rattle.arrow2_bitmap.specs.PackedBitmaps.{IsPacked};
 ghost use Rattle.arrow2_types.specs.declared.growth_error.GrowthError.TheVariants as growth_error;

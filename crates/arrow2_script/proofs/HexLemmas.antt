@@ -1,6 +1,5 @@
 -- Words that spell bytes in hexadecimal, and the one word that spells each.
-use Rattle.std.proofs.Common.{codes, ◌≡◌, ◌∙◌, sym, ap, refl, ◌+◌, ◌*◌, ◌/◌, ◌%◌, ◌<◌, ℕ, List, [], ◌∷◌, length, true, false, cond, ◌&&◌, inl, inr, arith, eqb}
-use Rattle.std.specs.Prelude.{Some, None}
+use Rattle.std.proofs.Common.{codes, ◌≡◌, ◌∙◌, sym, ap, refl, ◌+◌, ◌*◌, ◌/◌, ◌%◌, ◌<◌, ℕ, List, [], ◌∷◌, length, true, false, cond, ◌&&◌, inl, inr, arith, eqb, Some, None}
 use Rattle.std.specs.List.{All, list_all, flat_map}
 use Rattle.std.proofs.lemmas.List.Elements.{All-cons, All-nil}
 use Rattle.std.proofs.lemmas.Option.{cond_some, none-some}

@@ -1,6 +1,5 @@
 -- Words spell one command that combines bitmaps at most, and each is spelled in one way.
-use Rattle.std.proofs.Common.{◌≡◌, refl, ℕ, List, ◌∷◌, true, arith, codes}
-use Rattle.std.specs.Prelude.{Some, None}
+use Rattle.std.proofs.Common.{◌≡◌, refl, ℕ, List, ◌∷◌, true, arith, codes, Some, None}
 use Rattle.std.specs.List.{list_all}
 use Rattle.std.proofs.lemmas.Option.{none-some}
 use Rattle.arrow2_script.specs.KernelCommands.{kernel_command_of, operator_command_of, table_command_of, kernel_words, KernelFits}

@@ -1,9 +1,6 @@
 -- Commands of one group: the words that spell each, and the names that distinguish them.
-use Rattle.std.proofs.Common.{◌≡◌, subst, refl, ◌<◌, ◌≤◌, ◌^◌, ℕ, List, [], ◌∷◌, Bool, true, cond, inl, inr, arith}
-use Rattle.std.specs.Prelude.{Option, Some, None, IfSome, option_map}
+use Rattle.std.proofs.Common.{◌≡◌, subst, refl, ◌<◌, ◌≤◌, ◌^◌, ℕ, List, [], ◌∷◌, Bool, true, cond, inl, inr, arith, Option, Some, None, IfSome, option_map, bytes_eq, decimal}
 use Rattle.std.specs.List.{All, list_all}
-use Rattle.std.specs.Str.{bytes_eq}
-use Rattle.std.specs.Fmt.{decimal}
 use Rattle.std.proofs.lemmas.Option.{same_Some, none-some}
 use Rattle.std.proofs.lemmas.Slice.Eq.{bytes_eq-Decides}
 use Rattle.arrow2_script.specs.Arguments.{◌>>=◌, ◌>>◌, no_words}

@@ -1,7 +1,6 @@
 -- Lines and words, cut from the front.
-use Rattle.std.proofs.Common.{◌≡◌, ◌≢◌, ◌∙◌, ap, refl, ◌<◌, ℕ, suc, List, [], ◌∷◌, ◌++◌, length, get_or, false, arith, eqb}
+use Rattle.std.proofs.Common.{◌≡◌, ◌≢◌, ◌∙◌, ap, refl, ◌<◌, ℕ, suc, List, [], ◌∷◌, ◌++◌, length, get_or, false, arith, eqb, eq-eqb}
 use Rattle.std.specs.List.{All, join_with_byte}
-use Rattle.std.proofs.lemmas.Bool.{eq-eqb}
 use Rattle.std.proofs.lemmas.List.Splits.{slice_split_none, slice_split_at}
 use Rattle.arrow2_script.specs.Lines.{lines_of, parts_between}
 

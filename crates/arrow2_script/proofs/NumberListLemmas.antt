@@ -1,9 +1,7 @@
 -- Words that spell lists of numbers, and the one word that spells each.
-use Rattle.std.proofs.Common.{map, codes, ◌≡◌, ◌≢◌, ◌∙◌, sym, ap, refl, ◌<◌, ◌^◌, ℕ, List, [], ◌∷◌, length, get_or, true, inl, inr, arith, eqb}
-use Rattle.std.specs.Prelude.{Some, None}
+use Rattle.std.proofs.Common.{map, codes, ◌≡◌, ◌≢◌, ◌∙◌, sym, ap, refl, ◌<◌, ◌^◌, ℕ, List, [], ◌∷◌, length, get_or, true, inl, inr, arith, eqb, Some, None, decimal}
 use Rattle.std.specs.List.{All, list_all, join_with_byte}
 use Rattle.std.specs.Str.Parse.{digits_value, AllDigits}
-use Rattle.std.specs.Fmt.{decimal}
 use Rattle.std.proofs.lemmas.Fmt.{decimal_is_IsNumeral}
 use Rattle.std.proofs.lemmas.Str.Parse.{digit_from_value}
 use Rattle.std.proofs.lemmas.Option.{cond_some, same_Some, none-some}

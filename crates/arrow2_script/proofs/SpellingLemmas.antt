@@ -1,11 +1,9 @@
 -- Words that spell numbers, slots, bits and texts of bits.
-use Rattle.std.proofs.Common.{◌≡◌, refl, ◌/◌, ◌%◌, ◌<◌, ◌^◌, ℕ, suc, List, [], ◌∷◌, length, Bool, true, false, ◌&&◌, not, arith, eqb, map, length-append}
-use Rattle.std.specs.Prelude.{Option, Some, None, IfSome}
+use Rattle.std.proofs.Common.{◌≡◌, refl, ◌/◌, ◌%◌, ◌<◌, ◌^◌, ℕ, suc, List, [], ◌∷◌, length, Bool, true, false, ◌&&◌, not, arith, eqb, map, length-append, Option, Some, None, IfSome, decimal}
 use Rattle.std.specs.List.{All, list_any, list_all, join_with_byte, flat_map}
 use Rattle.std.proofs.lemmas.Bool.{not-true}
 use Rattle.std.proofs.lemmas.List.Folds.{list_all-append}
 use Rattle.std.specs.Str.Parse.{AllDigits}
-use Rattle.std.specs.Fmt.{decimal}
 use Rattle.std.proofs.lemmas.Str.Parse.{digit_from_value}
 use Rattle.std.proofs.lemmas.Fmt.{decimal_is_IsNumeral}
 use Rattle.arrow2_script.specs.Lines.{is_blank}

@@ -1,7 +1,5 @@
 -- The commands on boolean arrays, and how each is spelled.
-use Rattle.std.specs.Prelude.{◌<◌, ◌^◌, ℕ, List, [], ◌∷◌, codes, Option, None, option_map, IfSome, if◌then◌else◌}
-use Rattle.std.specs.Str.{bytes_eq}
-use Rattle.std.specs.Fmt.{decimal}
+use Rattle.std.specs.Prelude.{◌<◌, ◌^◌, ℕ, List, [], ◌∷◌, codes, Option, None, option_map, IfSome, if◌then◌else◌, bytes_eq, decimal}
 use Rattle.arrow2_script.specs.Arguments.{◌>>◌, no_words}
 use Rattle.arrow2_script.specs.Words.{number_of, slot_of, optional_slot_of, optional_slot_word}
 use Rattle.arrow2_script.specs.declared.array_command.ArrayCommand.{ArrayCommand}

@@ -1,7 +1,5 @@
 -- The commands that combine bitmaps by truth tables, and how each is spelled.
-use Rattle.std.specs.Prelude.{◌<◌, ℕ, List, [], ◌∷◌, codes, Option, None, option_map, if◌then◌else◌}
-use Rattle.std.specs.Str.{bytes_eq}
-use Rattle.std.specs.Fmt.{decimal}
+use Rattle.std.specs.Prelude.{◌<◌, ℕ, List, [], ◌∷◌, codes, Option, None, option_map, if◌then◌else◌, bytes_eq, decimal}
 use Rattle.arrow2_script.specs.Arguments.{◌>>◌, no_words}
 use Rattle.arrow2_script.specs.Words.{slot_of, below_of, width_of, width_word}
 use Rattle.arrow2_script.specs.declared.kernel_command.KernelCommand.{KernelCommand}

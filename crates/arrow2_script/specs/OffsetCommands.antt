@@ -1,8 +1,5 @@
 -- The commands on offsets, and how each is spelled.
-use Rattle.std.specs.Prelude.{◌<◌, ◌^◌, ℕ, List, [], ◌∷◌, codes, Option, None, option_map, if◌then◌else◌}
-use Rattle.std.specs.List.{All}
-use Rattle.std.specs.Str.{bytes_eq}
-use Rattle.std.specs.Fmt.{decimal}
+use Rattle.std.specs.Prelude.{◌<◌, ◌^◌, ℕ, List, [], ◌∷◌, codes, Option, None, option_map, if◌then◌else◌, All, bytes_eq, decimal}
 use Rattle.arrow2_script.specs.Arguments.{◌>>◌, no_words}
 use Rattle.arrow2_script.specs.Words.{number_of, slot_of, number_list, numbers_text}
 use Rattle.arrow2_script.specs.declared.offset_command.OffsetCommand.{OffsetCommand}

@@ -1,7 +1,5 @@
 -- The commands on values of any type, and how each is spelled.
-use Rattle.std.specs.Prelude.{◌<◌, ℕ, List, [], ◌∷◌, codes, Option, None, option_map, if◌then◌else◌}
-use Rattle.std.specs.Str.{bytes_eq}
-use Rattle.std.specs.Fmt.{decimal}
+use Rattle.std.specs.Prelude.{◌<◌, ℕ, List, [], ◌∷◌, codes, Option, None, option_map, if◌then◌else◌, bytes_eq, decimal}
 use Rattle.arrow2_script.specs.Arguments.{◌>>◌, no_words}
 use Rattle.arrow2_script.specs.Words.{slot_of}
 use Rattle.arrow2_script.specs.declared.value_command.ValueCommand.{ValueCommand}

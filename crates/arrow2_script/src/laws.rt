@@ -1,7 +1,5 @@
 //! Laws of the script's grammar. Each is the contract of a function with an empty body.
-ghost use Rattle.std.specs.Prelude.{◌≡◌, ◌<◌, ◌≤◌, ◌^◌, ◌∷◌, [], ◌↔◌, ℕ, List, Bool, Option, Some, IfSome, length};
-ghost use Rattle.std.specs.Fmt.{decimal};
-ghost use Rattle.std.specs.List.{All};
+ghost use Rattle.std.specs.Prelude.{◌≡◌, ◌<◌, ◌≤◌, ◌^◌, ◌∷◌, [], ◌↔◌, ℕ, List, Bool, Option, Some, IfSome, length, decimal, All};
 ghost use Rattle.arrow2_script.specs.Lines.{lines_of, words_of, AreLines, AreWordsOfLine};
 ghost use Rattle.arrow2_script.specs.Words.{number_of, slot_of, optional_slot_of, optional_slot_word, bit_of, bits_of, bit_byte, bits_text, number_list, numbers_text, below_of, bytes_of, hex_text, width_of, width_word};
 ghost use Rattle.arrow2_script.specs.Commands.{command_in, IsSpelling};

@@ -1,7 +1,7 @@
 //! New bitmaps from three and four bitmaps: word functions, and truth tables.
 ghost use Rattle.std.specs.Prelude.{◌≡◌, ℕ, [], ◌∷◌, length, IfOk};
 ghost use Rattle.arrow2_model.specs.Kernels.{ternary_kernel, quaternary_kernel, ComputesTernary, ComputesQuaternary};
-ghost use Rattle.arrow2_model.specs.Storage.{bitmap_word, items_of};
+ghost use Rattle.arrow2_model.specs.Lists.{bitmap_word, items_of};
 ghost use Rattle.arrow2_model.specs.Tables.{each, IsBitwiseTernary, IsBitwiseQuaternary};
 ghost use Rattle.arrow2_kernels.specs.WordResults.{AreJoinedResults};
 ghost use Rattle.arrow2_bitmap.specs.PackedBitmaps.{IsPacked};

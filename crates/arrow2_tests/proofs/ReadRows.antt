@@ -1,6 +1,6 @@
 -- The number of bytes that slices and cuts read.
 use Rattle.std.proofs.Common.{◌≡◌, ◌+◌, ◌-◌, ◌*◌, ◌%◌, ◌≤◌, ℕ, length, refl, ap, sym, ◌∙◌, arith}
-use Rattle.arrow2_model.specs.Storage.{BitmapStorage, items_of}
+use Rattle.arrow2_model.specs.Lists.{BitmapStorage, items_of}
 use Rattle.arrow2_model.specs.Touched.{touched, slice_reads, cut_reads, lg, halvings}
 use Rattle.arrow2_model.proofs.Touched.{cut_reads-in_byte}
 use Rattle.arrow2_walks.specs.Cuts.{Piece, piece_of}

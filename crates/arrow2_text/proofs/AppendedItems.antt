@@ -1,6 +1,5 @@
 -- Items that are appended together: their bytes, and growth by them as growth by slots.
-use Rattle.std.proofs.Common.{Bor, ◌≡◌, ◌∙◌, ℕ, zero, suc, ◌+◌, ◌<◌, ◌≤◌, List, [], ◌∷◌, All, length, map, replicate, sum, take, get_or, refl, ap, sym, arith}
-use Rattle.std.specs.Prelude.{IfSome, OnOk, Option, Some, None, Result, Ok, Err, is_some}
+use Rattle.std.proofs.Common.{Bor, ◌≡◌, ◌∙◌, ℕ, zero, suc, ◌+◌, ◌<◌, ◌≤◌, List, [], ◌∷◌, All, length, map, replicate, sum, take, get_or, refl, ap, sym, arith, IfSome, OnOk, Option, Some, None, Result, Ok, Err, is_some}
 use Rattle.std.specs.Option.{option_copied, option_map_or, unwrap_or}
 use Rattle.std.proofs.lemmas.List.{length-append, length-map, length-take}
 use Rattle.std.proofs.lemmas.List.Elements.{All-map, All-replicate}

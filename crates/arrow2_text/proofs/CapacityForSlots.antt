@@ -1,6 +1,5 @@
 -- Slots that are appended within the capacity.
-use Rattle.std.proofs.Common.{◌≡◌, ℕ, ◌≤◌, ◌<◌, ◌+◌, ◌^◌, inl, inr, List, ◌++◌, Bool, length, ap, subst, sym, refl, ◌∙◌, arith}
-use Rattle.std.specs.Prelude.{IsErr, IsErrAnd, Result, Ok, Err}
+use Rattle.std.proofs.Common.{◌≡◌, ℕ, ◌≤◌, ◌<◌, ◌+◌, ◌^◌, inl, inr, List, ◌++◌, Bool, length, ap, subst, sym, refl, ◌∙◌, arith, IsErr, IsErrAnd, Result, Ok, Err}
 use Rattle.arrow2_types.specs.declared.error.Error.{Error}
 use Rattle.arrow2_text.specs.Growth.{AppendsSlots, GrowingSlots, GrownBySlots, HasCapacityFor, ReservesSlots}
 

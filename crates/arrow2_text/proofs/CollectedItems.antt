@@ -1,6 +1,5 @@
 -- Items that are collected one by one: they, and how many bytes they have.
-use Rattle.std.proofs.Common.{◌≡◌, ◌∙◌, ℕ, ◌+◌, ◌<◌, ◌≤◌, ◌^◌, ◌⊎◌, inl, inr, List, [], ◌∷◌, ◌++◌, length, map, sum, cond, count_by, refl, ap, sym, arith}
-use Rattle.std.specs.Prelude.{Option, Some, Result, Ok, Err, IfErr, IfOk, IsErrAnd, IsNone, ◌↔◌}
+use Rattle.std.proofs.Common.{◌≡◌, ◌∙◌, ℕ, ◌+◌, ◌<◌, ◌≤◌, ◌^◌, ◌⊎◌, inl, inr, List, [], ◌∷◌, ◌++◌, length, map, sum, cond, count_by, refl, ap, sym, arith, Option, Some, Result, Ok, Err, IfErr, IfOk, IsErrAnd, IsNone, ◌↔◌}
 use Rattle.std.specs.Option.{is_none, option_map_or}
 use Rattle.std.proofs.lemmas.List.Sums.{sum_by-cons}
 use Rattle.std.proofs.lemmas.List.{length-append, length-map, map-append}
@@ -10,7 +9,7 @@ use Rattle.arrow2_types.specs.declared.error.Error.TheVariants.{OutOfMemory, Ove
 use Rattle.arrow2_datatypes.specs.declared.DataType.{DataType}
 use Rattle.arrow2_text.specs.Binary.{BinaryParts, binary_items}
 use Rattle.arrow2_text.specs.Growth.{bytes_of_items}
-use Rattle.arrow2_model.specs.Buffers.{buffer_items}
+use Rattle.arrow2_model.specs.Lists.{buffer_items}
 
 -- one item more has its bytes more
 pub bytes-more : (items : List (Option (List ℕ))) (item : Option (List ℕ)) → bytes_of_items (items ++ item ∷ []) ≡ bytes_of_items items + option_map_or length item 0

@@ -1,12 +1,10 @@
 -- Values as they grow: what holds of each of them still does.
-use Rattle.std.proofs.Common.{◌≡◌, ◌∙◌, ℕ, List, [], ◌∷◌, ◌++◌, All, Bool, get_or, length, ap, subst, sym, arith}
-use Rattle.std.specs.Prelude.{IfOk, IfSome, OnOk, Option, Some, None, Result, Ok, Err}
+use Rattle.std.proofs.Common.{◌≡◌, ◌∙◌, ℕ, List, [], ◌∷◌, ◌++◌, All, Bool, get_or, length, ap, subst, sym, arith, IfOk, IfSome, OnOk, Option, Some, None, Result, Ok, Err, length-append}
 use Rattle.std.proofs.Math.ListN.{get_or-append}
 use Rattle.std.proofs.Math.Seq.{get_or-append_seam}
-use Rattle.std.proofs.lemmas.List.{length-append}
 use Rattle.std.proofs.lemmas.List.Elements.{All-append, All-push, All-take, All-drop}
 use Rattle.arrow2_types.specs.declared.error.Error.{Error}
-use Rattle.arrow2_model.specs.Parts.{part}
+use Rattle.arrow2_model.specs.Lists.{part}
 use Rattle.arrow2_text.specs.Values.{AreValues}
 use Rattle.arrow2_text.specs.Growth.{AppendsSlots, GrowingSlots, PopsSlot}
 use Rattle.arrow2_text.proofs.GrowthItems.{value-of}

@@ -1,13 +1,10 @@
 -- Growth by slots is growth by items; and whether a builder's validity becomes a bitmap.
-use Rattle.std.proofs.Common.{◌≡◌, ℕ, ◌+◌, ◌≤◌, List, [], ◌∷◌, ◌++◌, Bool, true, false, count_by, length, map, ap, subst, sym, refl, ◌∙◌, arith}
-use Rattle.std.specs.Prelude.{Option, Some, None, MatchOption, IsErr, IsErrAnd, Result, Ok, Err, ◌↔◌, is_some, option_map}
+use Rattle.std.proofs.Common.{◌≡◌, ℕ, ◌+◌, ◌≤◌, List, [], ◌∷◌, ◌++◌, Bool, true, false, count_by, length, map, ap, subst, sym, refl, ◌∙◌, arith, Option, Some, None, MatchOption, IsErr, IsErrAnd, Result, Ok, Err, ◌↔◌, is_some, option_map, IsNone, is_none}
 use Rattle.std.proofs.lemmas.List.{map-append}
-use Rattle.std.specs.Option.{IsNone, is_none}
 use Rattle.arrow2_types.specs.declared.error.Error.{Error}
 use Rattle.arrow2_walks.specs.Zipped.{slot, zipped}
 use Rattle.arrow2_walks.proofs.Zipped.{length-zipped, append-zipped, nulls-zipped, push-zipped}
-use Rattle.arrow2_model.specs.Parts.{falses}
-use Rattle.arrow2_model.specs.Storage.{BitmapStorage}
+use Rattle.arrow2_model.specs.Lists.{falses, BitmapStorage}
 use Rattle.arrow2_validity.proofs.Slots.{known-zipped}
 use Rattle.arrow2_text.specs.Growth.{AppendsBinary, AppendsSlots, GrowingBinary, GrowingSlots, PopsBinary, PopsSlot, growing_binary}
 

@@ -1,11 +1,9 @@
 -- The last slot, taken off.
-use Rattle.std.proofs.Common.{◌≡◌, ℕ, ◌+◌, ◌<◌, List, [], ◌∷◌, ◌++◌, Bool, true, false, get_or, length, sum, take, drop, ap, subst, sym, refl, ◌∙◌, arith}
+use Rattle.std.proofs.Common.{◌≡◌, ℕ, ◌+◌, ◌<◌, List, [], ◌∷◌, ◌++◌, Bool, true, false, get_or, length, sum, take, drop, ap, subst, sym, refl, ◌∙◌, arith, length-append, length-drop, length-take, IsErr, IsErrAnd, Option, Some, None, Result, Ok, Err, option_map}
 use Rattle.std.proofs.Math.Seq.{get_or-append_seam}
-use Rattle.std.proofs.lemmas.List.{length-append, length-drop, length-take}
-use Rattle.std.specs.Prelude.{IsErr, IsErrAnd, Option, Some, None, Result, Ok, Err, option_map}
 use Rattle.arrow2_types.specs.declared.error.Error.{Error}
 use Rattle.arrow2_types.specs.declared.error.Error.TheVariants.{OutOfMemory}
-use Rattle.arrow2_model.specs.Parts.{part}
+use Rattle.arrow2_model.specs.Lists.{part}
 use Rattle.arrow2_offset.specs.NestedLists.{cut}
 use Rattle.arrow2_offset.proofs.NestedLists.{length-cut}
 use Rattle.arrow2_walks.specs.Zipped.{slot}

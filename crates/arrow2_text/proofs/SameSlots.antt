@@ -1,12 +1,10 @@
 -- Slots of two arrays that have the same bytes: by their lengths and all their bytes at once, and run by run of those
 -- that are not null.
-use Rattle.std.proofs.Common.{◌≡◌, ℕ, zero, suc, ◌+◌, ◌-◌, ◌<◌, ◌≤◌, ◌↔◌, ◌⊎◌, List, [], ◌∷◌, ◌++◌, Bool, true, false, not, cond, inl, inr, count_by, length, map, sum, take, drop, get_or, replicate, flat_map, refl, ap, sym, ◌∙◌, arith}
-use Rattle.std.specs.Prelude.{Option, None, Some, is_some}
-use Rattle.std.specs.Option.{is_none}
+use Rattle.std.proofs.Common.{◌≡◌, ℕ, zero, suc, ◌+◌, ◌-◌, ◌<◌, ◌≤◌, ◌↔◌, ◌⊎◌, List, [], ◌∷◌, ◌++◌, Bool, true, false, not, cond, inl, inr, count_by, length, map, sum, take, drop, get_or, replicate, flat_map, refl, ap, sym, ◌∙◌, arith, Option, None, Some, is_some, is_none}
 use Rattle.std.proofs.Math.Seq.{take-add, take-append_seam, take-length}
 use Rattle.std.proofs.lemmas.List.{append_cancel_left, length-take, length-drop, take_all, ext_get_or, get_or-take, get_or-drop}
 use Rattle.std.proofs.lemmas.List.Sums.{sum_by-cons}
-use Rattle.arrow2_model.specs.Parts.{part, falses}
+use Rattle.arrow2_model.specs.Lists.{part, falses}
 use Rattle.arrow2_offset.specs.NestedLists.{cut}
 use Rattle.arrow2_offset.proofs.NestedLists.{extend-cut, part-cut}
 use Rattle.arrow2_walks.specs.Runs.{runs}

@@ -1,8 +1,6 @@
 -- Items of an array from the values of its slots.
-use Rattle.std.proofs.Common.{Bor, ◌≡◌, ℕ, ◌<◌, List, Bool, true, false, length, get_or, ap, sym, refl, ◌∙◌, arith}
-use Rattle.std.specs.Prelude.{IfSome, Option, Some, None, IsTrue, is_some}
+use Rattle.std.proofs.Common.{Bor, ◌≡◌, ℕ, ◌<◌, List, Bool, true, false, length, get_or, ap, sym, refl, ◌∙◌, arith, IfSome, Option, Some, None, IsTrue, is_some, option_copied}
 use Rattle.std.specs.Bool.{then_some}
-use Rattle.std.specs.Option.{option_copied}
 use Rattle.arrow2_walks.specs.Zipped.{slot, zipped}
 use Rattle.arrow2_walks.proofs.Zipped.{length-zipped, at-zipped}
 

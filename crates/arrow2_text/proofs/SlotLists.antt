@@ -1,14 +1,10 @@
 -- Slots between offsets with their validity.
-use Rattle.std.proofs.Common.{◌≡◌, ℕ, ℤ, ◌+◌, ◌≤◌, List, [], ◌∷◌, ◌++◌, Bool, false, get_or, length, sum, count_by, take, drop, ap, sym, ◌∙◌, arith}
+use Rattle.std.proofs.Common.{◌≡◌, ℕ, ℤ, ◌+◌, ◌≤◌, List, [], ◌∷◌, ◌++◌, Bool, false, get_or, length, sum, count_by, take, drop, ap, sym, ◌∙◌, arith, IfSome, Option, Some, None, MatchOption, ◌↔◌, IsNone, is_none}
 use Rattle.std.proofs.Math.Nat.{min-le_left, min-le_right, le-min}
 use Rattle.std.proofs.lemmas.List.{length-append, length-drop, length-take, take_all, take_more, take-append-drop}
 use Rattle.std.proofs.lemmas.List.Sums.{sum_by-append}
 use Rattle.std.proofs.Math.Seq.{get_or-append_seam, take-add, take-length}
-use Rattle.std.specs.Prelude.{IfSome, Option, Some, None, MatchOption, ◌↔◌}
-use Rattle.std.specs.Option.{IsNone, is_none}
-use Rattle.arrow2_model.specs.Buffers.{BufferStorage, buffer_items, whole_buffer}
-use Rattle.arrow2_model.specs.Parts.{part}
-use Rattle.arrow2_model.specs.Storage.{BitmapStorage, items_of}
+use Rattle.arrow2_model.specs.Lists.{BufferStorage, buffer_items, whole_buffer, part, BitmapStorage, items_of}
 use Rattle.arrow2_bitmap.specs.PackedBitmaps.{IsPacked, packed_storage}
 use Rattle.arrow2_offset.specs.NestedLists.{cut}
 use Rattle.arrow2_offset.specs.Offsets.{lengths_of, start_of}

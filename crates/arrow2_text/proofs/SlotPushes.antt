@@ -1,8 +1,6 @@
 -- One slot more: appended to the offsets, the bytes and the validity, or to none of them.
-use Rattle.std.proofs.Common.{◌≡◌, ℕ, ◌+◌, ◌-◌, ◌≤◌, ◌<◌, ◌^◌, inl, inr, List, [], ◌∷◌, ◌++◌, Bool, true, false, length, min, sum, take, ap, subst, sym, refl, ◌∙◌, arith}
-use Rattle.std.specs.Prelude.{IfErr, IsErr, IsErrAnd, IsErrOf, IsOk, OnErr, OnOk, Result, Ok, Err, is_err}
+use Rattle.std.proofs.Common.{◌≡◌, ℕ, ◌+◌, ◌-◌, ◌≤◌, ◌<◌, ◌^◌, inl, inr, List, [], ◌∷◌, ◌++◌, Bool, true, false, length, min, sum, take, ap, subst, sym, refl, ◌∙◌, arith, IfErr, IsErr, IsErrAnd, IsErrOf, IsOk, OnErr, OnOk, Result, Ok, Err, is_err, length-append}
 use Rattle.std.proofs.Math.Seq.{take-append_seam}
-use Rattle.std.proofs.lemmas.List.{length-append}
 use Rattle.arrow2_types.specs.declared.error.Error.{Error}
 use Rattle.arrow2_types.specs.declared.error.Error.TheVariants.{Overflow, OutOfMemory}
 use Rattle.arrow2_types.specs.Failures.{error_of}

@@ -1,9 +1,7 @@
 -- What contracts see of arrays of byte strings and of texts.
 use Rattle.std.specs.Prelude.{◌≡◌, ◌↔◌, ℕ, ◌+◌, Bool, ℤ, List, Option, length, sum, count_by, if◌then◌else◌, IfSome, IsNone}
 use Rattle.std.specs.Option.{ForSome, is_none}
-use Rattle.arrow2_model.specs.Buffers.{BufferStorage, buffer_items, whole_buffer}
-use Rattle.arrow2_model.specs.Parts.{part}
-use Rattle.arrow2_model.specs.Storage.{BitmapStorage, items_of}
+use Rattle.arrow2_model.specs.Lists.{BufferStorage, buffer_items, whole_buffer, part, BitmapStorage, items_of}
 use Rattle.arrow2_walks.specs.Zipped.{zipped}
 use Rattle.arrow2_offset.specs.Offsets.{lengths_of, offset_at, start_of, last_of}
 use Rattle.arrow2_utf8.specs.Texts.{slot_values}

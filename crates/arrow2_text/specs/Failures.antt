@@ -1,8 +1,7 @@
 -- The errors for parts that are no array.
 use Rattle.std.specs.Prelude.{◌≡◌, ℕ, List, ℤ, Option, codes, length, Result, OnOk}
 use Rattle.std.specs.Option.{ForSome}
-use Rattle.arrow2_model.specs.Buffers.{BufferStorage}
-use Rattle.arrow2_model.specs.Storage.{BitmapStorage, items_of}
+use Rattle.arrow2_model.specs.Lists.{BufferStorage, BitmapStorage, items_of}
 use Rattle.arrow2_types.specs.declared.error.Error.{Error}
 use Rattle.arrow2_types.specs.Failures.{FailsOnlyWith, OnlyOutOfMemory}
 use Rattle.arrow2_validity.specs.Failures.{unequal_lengths_message}

@@ -1,6 +1,5 @@
 //! The values that can be appended as items: byte strings, texts, and options of them.
-ghost use Rattle.std.specs.Prelude.{◌≡◌, ℕ, List, Option, Some, IfSome};
-ghost use Rattle.std.specs.Option.{option_copied};
+ghost use Rattle.std.specs.Prelude.{◌≡◌, ℕ, List, Option, Some, IfSome, option_copied};
 
 use crate::byte_array_type::{BinaryType, ByteArrayType, Utf8Type};
 

@@ -1,7 +1,6 @@
 //! An array of nullable byte strings.
-ghost use Rattle.std.specs.Prelude.{◌≡◌, ◌<◌, ◌↔◌, [], None, Some, length, map, count_by, slice_index_or, sum, IsErrOf, IsNone, IfOk, IsTrue};
-ghost use Rattle.std.specs.Option.{is_none, is_some, option_copied};
-ghost use Rattle.arrow2_model.specs.Buffers.{buffer_items};
+ghost use Rattle.std.specs.Prelude.{◌≡◌, ◌<◌, ◌↔◌, [], None, Some, length, map, count_by, slice_index_or, sum, IsErrOf, IsNone, IfOk, IsTrue, is_none, is_some, option_copied};
+ghost use Rattle.arrow2_model.specs.Lists.{buffer_items};
 ghost use Rattle.arrow2_walks.specs.Selections.{non_null_values};
 ghost use Rattle.arrow2_text.specs.Binary.{binary_items, binary_values, default_binary, IsCompact};
 ghost use Rattle.arrow2_text.specs.Growth.{bytes_of_items, items_by_bytes};

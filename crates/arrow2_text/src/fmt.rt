@@ -1,7 +1,6 @@
 //! `Debug` output of arrays.
-ghost use Rattle.std.specs.Prelude.{Some, IfSome};
+ghost use Rattle.std.specs.Prelude.{Some, IfSome, option_copied};
 ghost use Rattle.std.specs.Fmt.{DisplaysOnOk, ◌++?◌, debug_list};
-ghost use Rattle.std.specs.Option.{option_copied};
 ghost use Rattle.arrow2_validity.specs.ItemTexts.{item_output};
 ghost use Rattle.arrow2_text.specs.Binary.{binary_items};
 

@@ -1,10 +1,7 @@
 //! An array of nullable byte strings or texts.
-ghost use Rattle.std.specs.Prelude.{◌≡◌, ◌+◌, ◌<◌, ◌≤◌, ◌^◌, ◌↔◌, [], None, Some, true, length, map, count_by, replicate, slice_index_or, IsErrOf, IsNone, IfOk, IfSome, IsTrue, MatchOption, option_map, ⊤, IsOk};
-ghost use Rattle.std.specs.Option.{is_none, is_some, option_copied};
+ghost use Rattle.std.specs.Prelude.{◌≡◌, ◌+◌, ◌<◌, ◌≤◌, ◌^◌, ◌↔◌, [], None, Some, true, length, map, count_by, replicate, slice_index_or, IsErrOf, IsNone, IfOk, IfSome, IsTrue, MatchOption, option_map, ⊤, IsOk, is_none, is_some, option_copied};
 ghost use Rattle.either.specs.Either.{MatchEither};
-ghost use Rattle.arrow2_model.specs.Buffers.{buffer_items, whole_buffer};
-ghost use Rattle.arrow2_model.specs.Parts.{part};
-ghost use Rattle.arrow2_model.specs.Storage.{items_of};
+ghost use Rattle.arrow2_model.specs.Lists.{buffer_items, whole_buffer, part, items_of};
 ghost use Rattle.arrow2_walks.specs.Zipped.{zipped};
 ghost use Rattle.arrow2_offset.specs.Offsets.{last_of};
 ghost use Rattle.arrow2_validity.specs.OptionalValidity.{valid_items};
@@ -61,7 +58,7 @@ pub struct GenericByteArray<T: ByteArrayType, O: Offset> {
 
 impl<T: ByteArrayType, O: Offset> Model for GenericByteArray<T, O> {
     ghost use Rattle.std.specs.Prelude.{◌≡◌};
-    ghost use Rattle.arrow2_model.specs.Buffers.{buffer_items};
+    ghost use Rattle.arrow2_model.specs.Lists.{buffer_items};
     ghost use Rattle.arrow2_datatypes.specs.Types.{physical};
     ghost use Rattle.arrow2_text.specs.Binary.{BinaryParts};
     ghost use Rattle.std.specs.Coded.{codes};

@@ -1,9 +1,8 @@
 //! Slots that grow: bytes between offsets, with their validity.
 ghost use Rattle.std.specs.Prelude.{◌≡◌, ◌+◌, ◌*◌, ◌<◌, ◌≤◌, ◌^◌, ◌↔◌, [], ◌∷◌, ◌++◌, All, false, length, map, sum, count_by, is_some, option_map, slice_index_or, vec_capacity, IfNone, IfOk, IfSome, IsErrOf, IsNone, IsOk, OnErr, OnOk};
-ghost use Rattle.arrow2_model.specs.Buffers.{buffer_items};
+ghost use Rattle.arrow2_model.specs.Lists.{buffer_items, part};
 ghost use Rattle.std.specs.Option.{is_none, option_copied, option_map_or, unwrap_or};
 ghost use Rattle.arrow2_walks.specs.Zipped.{slot, zipped};
-ghost use Rattle.arrow2_model.specs.Parts.{part};
 ghost use Rattle.arrow2_validity.specs.OptionalValidity.{valid_items};
 ghost use Rattle.arrow2_text.specs.Binary.{binary_items, binary_values, slot_offset, slots_size, IsCompact};
 ghost use Rattle.arrow2_offset.specs.NestedLists.{cut};

@@ -1,12 +1,8 @@
 //! Bytes between offsets with their validity: what arrays of byte strings and of texts store.
-ghost use Rattle.std.specs.Prelude.{◌≡◌, ◌+◌, ◌<◌, ◌≤◌, [], None, Some, IfOk, IfSome, IsTrue, length, map, count_by, pos, slice_index_or, sum, ⊤, IsOk};
-ghost use Rattle.std.specs.Bool.{Decides};
-ghost use Rattle.std.specs.Option.{is_none, is_some};
+ghost use Rattle.std.specs.Prelude.{◌≡◌, ◌+◌, ◌<◌, ◌≤◌, [], None, Some, IfOk, IfSome, IsTrue, length, map, count_by, pos, slice_index_or, sum, ⊤, IsOk, Decides, is_none, is_some};
 ghost use Rattle.either.specs.Either.{MatchEither};
-ghost use Rattle.arrow2_model.specs.Buffers.{buffer_items, whole_buffer};
-ghost use Rattle.arrow2_model.specs.Parts.{part};
+ghost use Rattle.arrow2_model.specs.Lists.{buffer_items, whole_buffer, part, items_of};
 ghost use Rattle.arrow2_offset.specs.NestedLists.{cut};
-ghost use Rattle.arrow2_model.specs.Storage.{items_of};
 ghost use Rattle.arrow2_offset.specs.Offsets.{last_of, lengths_of, offsets_of};
 ghost use Rattle.arrow2_walks.specs.Zipped.{zipped};
 ghost use Rattle.arrow2_validity.specs.OptionalValidity.{valid_items};
@@ -40,7 +36,7 @@ pub(crate) struct Slots<O: Offset> {
 
 impl<O: Offset> Model for Slots<O> {
     ghost use Rattle.std.specs.Prelude.{◌≡◌, ◌≤◌, length};
-    ghost use Rattle.arrow2_model.specs.Buffers.{buffer_items};
+    ghost use Rattle.arrow2_model.specs.Lists.{buffer_items};
     ghost use Rattle.arrow2_offset.specs.Offsets.{last_of};
     ghost use Rattle.arrow2_validity.specs.OptionalValidity.{valid_items};
     ghost use Rattle.arrow2_text.specs.Binary.{BinaryParts, slots_between};

@@ -1,7 +1,7 @@
 //! A change of a buffer in place.
 ghost use Rattle.std.specs.Prelude.{◌≡◌, ◌<◌, length, slice_set};
 ghost use Rattle.std.specs.Bool.{OnTrue, OnFalse};
-ghost use Rattle.arrow2.specs.Buffers.{buffer_items};
+ghost use Rattle.arrow2.specs.Lists.{buffer_items};
 
 use arrow2::buffer::Buffer;
 

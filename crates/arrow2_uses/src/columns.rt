@@ -1,7 +1,5 @@
 //! Columns of numbers: built, filled, selected, taken, joined, and two that grow as one.
-ghost use Rattle.std.specs.Prelude.{◌≡◌, ◌<◌, ◌++◌, [], ◌∷◌, All, None, Some, pos, length, map, slice_index_or, option_map, unwrap_or, IfOk, OnOk, OnErr};
-ghost use Rattle.std.specs.List.{flat_map};
-ghost use Rattle.std.specs.Option.{option_copied};
+ghost use Rattle.std.specs.Prelude.{◌≡◌, ◌<◌, ◌++◌, [], ◌∷◌, All, None, Some, pos, length, map, slice_index_or, option_map, unwrap_or, IfOk, OnOk, OnErr, flat_map, option_copied};
 ghost use Rattle.std.specs.Ordering.{partial_gt};
 ghost use Rattle.arrow2.specs.Aggregates.{sum_of_non_null};
 ghost use Rattle.arrow2.specs.Binary.{binary_items};
@@ -9,7 +7,7 @@ ghost use Rattle.arrow2.specs.Failures.{OnlyOutOfMemory, OnlyOverflowOrOutOfMemo
 ghost use Rattle.arrow2.specs.Masks.{is_true};
 ghost use Rattle.arrow2.specs.Primitive.{primitive_items};
 ghost use Rattle.arrow2.specs.Selections.{selection};
-ghost use Rattle.arrow2.specs.Storage.{items_of};
+ghost use Rattle.arrow2.specs.Lists.{items_of};
 
 use arrow2::array::{MutablePrimitiveArray, MutableUtf8Array, PrimitiveArray, Utf8Array};
 use arrow2::bitmap::Bitmap;

@@ -1,9 +1,8 @@
 //! Bitmaps of the results of comparisons.
 ghost use Rattle.std.specs.Prelude.{◌≡◌, int_lt, length, map, IfOk};
 ghost use Rattle.std.specs.Simd.Lanes.{zip2};
-ghost use Rattle.arrow2.specs.Buffers.{buffer_items};
+ghost use Rattle.arrow2.specs.Lists.{buffer_items, items_of};
 ghost use Rattle.arrow2.specs.Failures.{OnlyOutOfMemory};
-ghost use Rattle.arrow2.specs.Storage.{items_of};
 
 use arrow2::bitmap::Bitmap;
 use arrow2::buffer::Buffer;

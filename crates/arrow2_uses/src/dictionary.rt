@@ -1,12 +1,10 @@
 //! A column type of a caller's own, made of two of arrow2's arrays: texts that repeat, each stored once.
-ghost use Rattle.std.specs.Prelude.{◌≡◌, ◌↔◌, ◌+◌, ◌<◌, ◌≤◌, [], All, None, codes, pos, length, map, option_map, refl, slice_index_or, unwrap_or, IfOk, IsOk, IsTrue};
-ghost use Rattle.std.specs.Option.{option_copied};
+ghost use Rattle.std.specs.Prelude.{◌≡◌, ◌↔◌, ◌+◌, ◌<◌, ◌≤◌, [], All, None, codes, pos, length, map, option_map, refl, slice_index_or, unwrap_or, IfOk, IsOk, IsTrue, option_copied};
 ghost use Rattle.arrow2.specs.Binary.{binary_items};
-ghost use Rattle.arrow2.specs.Parts.{part};
+ghost use Rattle.arrow2.specs.Lists.{part, items_of};
 ghost use Rattle.arrow2.specs.Primitive.{primitive_items};
 ghost use Rattle.arrow2.specs.Failures.{FailsOnlyWith, IsInvalidArgumentOrOutOfMemory, OnlyOutOfMemory, OnlyOverflowOrOutOfMemory};
 ghost use Rattle.arrow2.specs.Selections.{selection};
-ghost use Rattle.arrow2.specs.Storage.{items_of};
 ghost use Rattle.arrow2.specs.Take.{IsInBoundsOrNull, item_at};
 
 use arrow2::array::{

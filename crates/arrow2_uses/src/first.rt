@@ -1,7 +1,7 @@
 //! A first function.
 ghost use Rattle.std.specs.Prelude.{◌≡◌, map, not, IfOk};
 ghost use Rattle.arrow2.specs.Failures.{OnlyOverflowOrOutOfMemory};
-ghost use Rattle.arrow2.specs.Storage.{items_of};
+ghost use Rattle.arrow2.specs.Lists.{items_of};
 
 use arrow2::bitmap::Bitmap;
 use arrow2::error::Result;

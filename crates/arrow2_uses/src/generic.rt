@@ -1,6 +1,5 @@
 //! Functions over any type of value and of index.
-ghost use Rattle.std.specs.Prelude.{◌≡◌, ◌↔◌, ◌≤ℤ◌, ◌<ℤ◌, pos, All, IfOk, IsTrue};
-ghost use Rattle.std.specs.List.{flat_map};
+ghost use Rattle.std.specs.Prelude.{◌≡◌, ◌↔◌, ◌≤ℤ◌, ◌<ℤ◌, pos, All, IfOk, IsTrue, flat_map};
 ghost use Rattle.arrow2.specs.Failures.{OnlyOutOfMemory};
 
 use arrow2::error::Result;

@@ -2,7 +2,7 @@
 ghost use Rattle.std.specs.Prelude.{◌≡◌, ◌+◌, ◌%◌, ◌^◌, [], ◌∷◌, length, IfOk};
 ghost use Rattle.arrow2.specs.Failures.{OnlyOutOfMemory};
 ghost use Rattle.arrow2.specs.Kernels.{unary_kernel};
-ghost use Rattle.arrow2.specs.Storage.{items_of};
+ghost use Rattle.arrow2.specs.Lists.{items_of};
 ghost use Rattle.arrow2.specs.Tables.{each};
 
 use arrow2::bitmap::{Bitmap, MutableBitmap, binary_assign_table, binary_table, unary};

@@ -1,9 +1,7 @@
 //! Loops over a bitmap, by its items and by its words, over the words of bytes, and over a buffer.
 ghost use Rattle.std.specs.Prelude.{◌≡◌, ◌+◌, ◌*◌, ◌≤◌, int_lt, length, map, not, count_by, IfOk};
-ghost use Rattle.arrow2.specs.Buffers.{buffer_items};
+ghost use Rattle.arrow2.specs.Lists.{buffer_items, falses, items_of};
 ghost use Rattle.arrow2.specs.Failures.{OnlyOverflowOrOutOfMemory};
-ghost use Rattle.arrow2.specs.Parts.{falses};
-ghost use Rattle.arrow2.specs.Storage.{items_of};
 
 use arrow2::bitmap::utils::BitChunksExactMut;
 use arrow2::bitmap::{Bitmap, MutableBitmap};

@@ -1,10 +1,8 @@
 //! Valid values, copied run by run.
-ghost use Rattle.std.specs.Prelude.{◌≡◌, length, IfOk};
-ghost use Rattle.std.specs.List.{flat_map};
+ghost use Rattle.std.specs.Prelude.{◌≡◌, length, IfOk, flat_map};
 ghost use Rattle.arrow2.specs.Failures.{OnlyOutOfMemory};
-ghost use Rattle.arrow2.specs.Parts.{part};
+ghost use Rattle.arrow2.specs.Lists.{part, items_of};
 ghost use Rattle.arrow2.specs.Runs.{runs};
-ghost use Rattle.arrow2.specs.Storage.{items_of};
 
 use arrow2::bitmap::Bitmap;
 use arrow2::bitmap::utils::SlicesIterator;

@@ -1,13 +1,11 @@
 //! Columns of texts: built, measured, and cut into lists.
-ghost use Rattle.std.specs.Prelude.{◌≡◌, ◌<◌, ◌≤◌, [], Some, drop, length, map, slice_index_or, option_map, IfOk};
-ghost use Rattle.std.specs.Option.{option_copied};
+ghost use Rattle.std.specs.Prelude.{◌≡◌, ◌<◌, ◌≤◌, [], Some, drop, length, map, slice_index_or, option_map, IfOk, option_copied};
 ghost use Rattle.arrow2.specs.Binary.{binary_items};
-ghost use Rattle.arrow2.specs.Buffers.{buffer_items};
+ghost use Rattle.arrow2.specs.Lists.{buffer_items, items_of};
 ghost use Rattle.arrow2.specs.Failures.{OnlyOutOfMemory, OnlyOverflowOrOutOfMemory};
 ghost use Rattle.arrow2.specs.NestedLists.{cut};
 ghost use Rattle.arrow2.specs.Offsets.{start_of, lengths_of, last_of};
 ghost use Rattle.arrow2.specs.Primitive.{primitive_items};
-ghost use Rattle.arrow2.specs.Storage.{items_of};
 ghost use Rattle.arrow2.specs.Zipped.{zipped};
 
 use arrow2::array::{MutablePrimitiveArray, MutableUtf8Array, PrimitiveArray, Utf8Array};

@@ -1,8 +1,7 @@
 //! Validity bitmaps.
 ghost use Rattle.std.specs.Prelude.{◌≡◌, ◌+◌, length, map, is_some, IfOk, true, false, [], ◌∷◌};
 ghost use Rattle.arrow2.specs.Failures.{OnlyOutOfMemory};
-ghost use Rattle.arrow2.specs.Parts.{falses};
-ghost use Rattle.arrow2.specs.Storage.{items_of};
+ghost use Rattle.arrow2.specs.Lists.{falses, items_of};
 
 use arrow2::bitmap::{Bitmap, MutableBitmap};
 use arrow2::error::Result;

@@ -1,13 +1,10 @@
 -- A text that is cut between its characters is cut into texts.
-use Rattle.std.proofs.Common.{◌≡◌, ℕ, zero, suc, ◌+◌, ◌-◌, ◌<◌, ◌≤◌, List, [], ◌∷◌, All, length, sum, take, drop, get_or, ap, ◌∙◌, arith, add-one}
-use Rattle.std.specs.Prelude.{IsUtf8}
-use Rattle.std.specs.Str.{IsCharBoundary, IsAscii}
-use Rattle.std.proofs.Math.Seq.{take-add}
+use Rattle.std.proofs.Common.{◌≡◌, ℕ, zero, suc, ◌+◌, ◌-◌, ◌<◌, ◌≤◌, List, [], ◌∷◌, All, length, sum, take, drop, get_or, ap, ◌∙◌, arith, add-one, IsUtf8, IsCharBoundary, IsAscii, take-add}
 use Rattle.std.proofs.lemmas.List.{take-take, drop-take, length-map, length-take, length-drop}
 use Rattle.std.proofs.lemmas.List.Elements.{All-from_get_or, All-head, All-tail}
 use Rattle.std.proofs.lemmas.Str.{IsUtf8-between, IsUtf8-from_ascii, IsUtf8-nil, IsUtf8-append, IsCharBoundary-from_ascii, IsCharBoundary-start, IsCharBoundary-from_rest}
 use Rattle.arrow2_offset.specs.NestedLists.{cut}
-use Rattle.arrow2_model.specs.Parts.{part}
+use Rattle.arrow2_model.specs.Lists.{part}
 use Rattle.arrow2_offset.proofs.Growing.{sum-take-le, sum-take-next}
 use Rattle.arrow2_offset.proofs.NestedLists.{at-cut, length-cut}
 use Rattle.arrow2_offset.proofs.OffsetLists.{length-lengths_of, sum-cons}

@@ -1,7 +1,6 @@
 //! The test that the bytes between offsets are texts: of all bytes at once, and slot by slot where that fails.
-ghost use Rattle.std.specs.Prelude.{◌≡◌, ℕ, ◌<◌, ◌≤◌, ◌↔◌, All, [], length, map, sum, take, slice_index_or, IfErr, IsOk, IsTrue, IsUtf8, MatchOption};
-ghost use Rattle.std.specs.Str.{IsCharBoundary};
-ghost use Rattle.arrow2_model.specs.Buffers.{buffer_items};
+ghost use Rattle.std.specs.Prelude.{◌≡◌, ℕ, ◌<◌, ◌≤◌, ◌↔◌, All, [], length, map, sum, take, slice_index_or, IfErr, IsOk, IsTrue, IsUtf8, MatchOption, IsCharBoundary};
+ghost use Rattle.arrow2_model.specs.Lists.{buffer_items};
 ghost use Rattle.arrow2_offset.specs.Offsets.{AreOffsets, offset_at, start_of, lengths_of, last_of};
 ghost use Rattle.arrow2_utf8.specs.Texts.{slot_values, AreTexts, IsFirstNonUtf8, ReportsBrokenTexts, ReportsBrokenArray};
 

@@ -1,6 +1,5 @@
 -- The text of an array, item by item.
-use Rattle.std.proofs.Common.{◌≡◌, ◌∙◌, ℕ, zero, suc, ◌+◌, ◌<◌, ◌≤◌, List, [], ◌∷◌, ◌++◌, length, take, get_or, Option, Some, None, refl, ap, sym, subst, arith, append_assoc, append-nil, add-one, take_all}
-use Rattle.std.specs.Prelude.{IfSome, IsOk, Result, codes}
+use Rattle.std.proofs.Common.{◌≡◌, ◌∙◌, ℕ, zero, suc, ◌+◌, ◌<◌, ◌≤◌, List, [], ◌∷◌, ◌++◌, length, take, get_or, Option, Some, None, refl, ap, sym, subst, arith, append_assoc, append-nil, add-one, take_all, IfSome, IsOk, Result, codes}
 use Rattle.std.specs.declared.fmt.Error.{Error}
 use Rattle.std.specs.declared.fmt.Formatter.{Formatter}
 use Rattle.std.specs.Fmt.{◌++?◌, DisplaysOnOk, HasWritten, IsPlainFormatter, comma_space, debug_items, debug_list}

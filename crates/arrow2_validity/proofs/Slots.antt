@@ -1,7 +1,5 @@
 -- Values with their validity: which items are null, and values that are all there.
-use Rattle.std.proofs.Common.{◌≡◌, ℕ, zero, suc, ◌<◌, List, [], ◌∷◌, Bool, true, false, not, cond, count_by, length, get_or, replicate, map, refl, ap, arith}
-use Rattle.std.specs.Prelude.{Option, Some, None, is_some}
-use Rattle.std.specs.Option.{is_none}
+use Rattle.std.proofs.Common.{◌≡◌, ℕ, zero, suc, ◌<◌, List, [], ◌∷◌, Bool, true, false, not, cond, count_by, length, get_or, replicate, map, refl, ap, arith, Option, Some, None, is_some, is_none}
 use Rattle.std.proofs.lemmas.List.Sums.{sum_by-cons}
 use Rattle.arrow2_walks.specs.Zipped.{slot, zipped}
 use Rattle.arrow2_walks.proofs.Zipped.{length-zipped, part-zipped, append-zipped, push-zipped, slot-option, nulls-zipped, at-zipped}

@@ -1,11 +1,8 @@
 -- Whether each item is valid, with a bitmap or without.
-use Rattle.std.proofs.Common.{Bor, ◌≡◌, ℕ, ◌+◌, ◌<◌, ◌≤◌, List, [], ◌∷◌, Bool, true, false, length, get_or, replicate, refl, ap, sym, ◌∙◌, arith}
-use Rattle.std.specs.Prelude.{◌↔◌, Option, Some, None, IfSome, IsNone, MatchOption}
+use Rattle.std.proofs.Common.{Bor, ◌≡◌, ℕ, ◌+◌, ◌<◌, ◌≤◌, List, [], ◌∷◌, Bool, true, false, length, get_or, replicate, refl, ap, sym, ◌∙◌, arith, ◌↔◌, Option, Some, None, IfSome, IsNone, MatchOption}
 use Rattle.std.specs.Option.{ForSome, option_copied}
-use Rattle.arrow2_model.specs.Bits.{bit}
+use Rattle.arrow2_model.specs.Lists.{bit, part, falses, BitmapStorage, items_of}
 use Rattle.std.proofs.lemmas.List.{length-replicate, get_or-replicate, ext_get_or}
-use Rattle.arrow2_model.specs.Parts.{part, falses}
-use Rattle.arrow2_model.specs.Storage.{BitmapStorage, items_of}
 use Rattle.arrow2_model.specs.Tables.{answer, each}
 use Rattle.arrow2_model.proofs.Parts.{get_or-part, length-part}
 use Rattle.arrow2_model.proofs.Counts.{falses-all_true, falses-none}

@@ -1,7 +1,7 @@
 -- Which items of an array are not null (Arrow columnar format, "Validity bitmaps": an array without nulls may have no
 -- bitmap).
 use Rattle.std.specs.Prelude.{ℕ, ◌+◌, List, Bool, true, Option, Some, None, option_map, replicate}
-use Rattle.arrow2_model.specs.Storage.{BitmapStorage, items_of}
+use Rattle.arrow2_model.specs.Lists.{BitmapStorage, items_of}
 
 -- the number of items, and the bitmap of those that are not null: without one none is null
 pub record OptionalValidity : Type 0 where

@@ -2,8 +2,7 @@
 ghost use Rattle.std.specs.Prelude.{◌≡◌, ◌+◌, ◌<◌, ◌≤◌, ◌↔◌, [], ◌∷◌, None, Some, false, true, length, replicate, slice_index_or, string_bytes, option_map, MatchOption, IfOk, IfSome, IsNone, IsOk, IsSome, IsTrue, ⊤};
 ghost use Rattle.std.specs.Option.{ForSome};
 ghost use Rattle.either.specs.Either.{MatchEither};
-ghost use Rattle.arrow2_model.specs.Parts.{falses, part};
-ghost use Rattle.arrow2_model.specs.Storage.{items_of};
+ghost use Rattle.arrow2_model.specs.Lists.{falses, part, items_of};
 ghost use Rattle.arrow2_model.specs.Tables.{each};
 ghost use Rattle.arrow2_packed_bits.specs.Growth.{Appends};
 ghost use Rattle.arrow2_types.specs.Failures.{FailsOnlyWith, error_of, OnlyOutOfMemory};
@@ -30,7 +29,7 @@ pub struct Validity {
 impl Model for Validity {
     ghost use Rattle.std.specs.Prelude.{◌≡◌, length};
     ghost use Rattle.std.specs.Option.{ForSome};
-    ghost use Rattle.arrow2_model.specs.Storage.{items_of};
+    ghost use Rattle.arrow2_model.specs.Lists.{items_of};
     ghost use Rattle.arrow2_validity.specs.OptionalValidity.{OptionalValidity};
 
     ghost Value = { OptionalValidity };

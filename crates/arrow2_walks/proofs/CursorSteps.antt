@@ -7,7 +7,7 @@ use Rattle.std.proofs.Math.Nat.{div-div-eq-div-mul, div-one, pow-succ', zero-add
 use Rattle.std.proofs.lemmas.Bool.{cases_lt, not-false, not-true}
 use Rattle.std.proofs.lemmas.Nat.Bits.{bit_at-trailing_zeros, bit_at-zero}
 use Rattle.std.proofs.lemmas.List.{get_or-map}
-use Rattle.arrow2_model.specs.Bits.{bit, unnum}
+use Rattle.arrow2_model.specs.Lists.{bit, unnum}
 use Rattle.arrow2_model.proofs.Bits.{bit_is, get_or-unnum, length-unnum}
 use Rattle.arrow2_model.proofs.Chunks.{unnum-not}
 use Rattle.arrow2_walks.specs.Cursor.{IsFirst, IsRead}

@@ -1,10 +1,9 @@
 -- Cuts of pieces: the facts that stay, and the potential that pays for the reads.
-use Rattle.std.proofs.Common.{◌≡◌, ℕ, zero, suc, ◌+◌, ◌-◌, ◌*◌, ◌<◌, ◌≤◌, List, [], ◌∷◌, ◌++◌, length, map, take, drop, get_or, set, subst, refl, ap, sym, ◌∙◌, arith}
-use Rattle.std.specs.List.{insert}
+use Rattle.std.proofs.Common.{◌≡◌, ℕ, zero, suc, ◌+◌, ◌-◌, ◌*◌, ◌<◌, ◌≤◌, List, [], ◌∷◌, ◌++◌, length, map, take, drop, get_or, set, subst, refl, ap, sym, ◌∙◌, arith, insert}
 use Rattle.std.proofs.lemmas.List.{take-append-drop, length-take-le, length-drop, append_assoc, get_or-map}
 use Rattle.std.proofs.lemmas.List.Concat.{flat_map-cons}
 use Rattle.std.proofs.lemmas.List.Sums.{sum_by-cons}
-use Rattle.arrow2_model.specs.Storage.{BitmapStorage, items_of}
+use Rattle.arrow2_model.specs.Lists.{BitmapStorage, items_of}
 use Rattle.arrow2_model.specs.Touched.{slice_reads, cut_reads, lg, cut_budget, total_cut_budget}
 use Rattle.arrow2_model.proofs.Touched.{cut_le, cut_reads-is}
 use Rattle.arrow2_walks.specs.Cuts.{Piece, piece_of, piece_at, all_items, front, back, cut_at, lengths, IsWithinBudget}

@@ -1,7 +1,7 @@
 -- Steps of an iterator over a part of a list, from both ends.
 use Rattle.std.proofs.Common.{◌≡◌, ℕ, suc, ◌+◌, ◌-◌, ◌<◌, ◌≤◌, List, [], ◌∷◌, ◌++◌, take, drop, length, get_or, refl, ap, ◌∙◌, arith}
 use Rattle.std.proofs.lemmas.List.{drop_more, take_more, length-drop, get_or-drop}
-use Rattle.arrow2_model.specs.Parts.{part}
+use Rattle.arrow2_model.specs.Lists.{part}
 use Rattle.arrow2_model.proofs.Parts.{length-part}
 
 module _ {X : Type 0} where

@@ -1,6 +1,5 @@
 -- `runs` gives just the maximal runs.
-use Rattle.std.proofs.Common.{◌≡◌, ℕ, zero, suc, ◌+◌, ◌<◌, ◌≤◌, inl, inr, List, [], ◌∷◌, Bool, true, false, map, get_or, refl, sym, ap, ◌∙◌, arith}
-use Rattle.std.proofs.lemmas.Bool.{true≢false}
+use Rattle.std.proofs.Common.{◌≡◌, ℕ, zero, suc, ◌+◌, ◌<◌, ◌≤◌, inl, inr, List, [], ◌∷◌, Bool, true, false, map, get_or, refl, sym, ap, ◌∙◌, arith, true≢false}
 use Rattle.arrow2_walks.specs.Runs.{shift_run, with_true, runs, IsRun, AllRuns, AreRisingPast, AreRising, InRuns, AreRuns}
 
 -- a run stays one after an item is put before it, where the run isn't first or the item is false

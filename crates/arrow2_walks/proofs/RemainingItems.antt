@@ -1,7 +1,6 @@
 -- An iterator by the items still to come: the next item, and those after it.
-use Rattle.std.proofs.Common.{◌≡◌, ℕ, suc, ◌+◌, ◌-◌, ◌++◌, ◌∷◌, List, All, length, get_or, take, drop, subst, ap, sym, ◌∙◌, append_assoc, arith}
-use Rattle.std.specs.List.{flat_map}
-use Rattle.arrow2_model.specs.Parts.{part}
+use Rattle.std.proofs.Common.{◌≡◌, ℕ, suc, ◌+◌, ◌-◌, ◌++◌, ◌∷◌, List, All, length, get_or, take, drop, subst, ap, sym, ◌∙◌, append_assoc, arith, flat_map}
+use Rattle.arrow2_model.specs.Lists.{part}
 
 module _ {X : Type 0} {left rest : List X} {x : X} where
   -- a fact on all that were left holds of those that are left now

@@ -1,9 +1,7 @@
 -- Laws of runs: they lie apart, cover just the true items, and their lengths are the number of those.
-use Rattle.std.proofs.Common.{◌≡◌, ℕ, zero, suc, ◌+◌, ◌-◌, ◌<◌, inl, inr, List, [], ◌∷◌, Bool, true, false, map, cond, not, get_or, length, refl, sym, ap, ◌∙◌, arith}
-use Rattle.std.specs.Prelude.{slice_index_or}
-use Rattle.std.specs.List.{sum_by}
+use Rattle.std.proofs.Common.{◌≡◌, ℕ, zero, suc, ◌+◌, ◌-◌, ◌<◌, inl, inr, List, [], ◌∷◌, Bool, true, false, map, cond, not, get_or, length, refl, sym, ap, ◌∙◌, arith, slice_index_or, sum_by}
 use Rattle.std.proofs.lemmas.List.Sums.{sum_by-cons}
-use Rattle.arrow2_model.specs.Parts.{falses}
+use Rattle.arrow2_model.specs.Lists.{falses}
 use Rattle.arrow2_walks.specs.Runs.{shift_run, with_true, runs, AllRuns, AreRisingPast, AreRising, InRuns}
 use Rattle.arrow2_walks.proofs.MaximalRuns.{runs_are}
 use Rattle.arrow2_walks.proofs.UniqueRuns.{runs_unique}

@@ -1,10 +1,8 @@
 -- Items chosen by a mask: one item more, their number, and that the mask's runs cut them out. Items that are not null.
-use Rattle.std.proofs.Common.{◌≡◌, ℕ, zero, suc, ◌+◌, ◌<◌, ◌≤◌, List, [], ◌∷◌, ◌++◌, Bool, true, false, cond, not, length, map, take, get_or, refl, ap, ◌∙◌, arith, add-one}
-use Rattle.std.specs.Prelude.{Option, Some, None, if◌then◌else◌}
-use Rattle.std.specs.List.{flat_map}
+use Rattle.std.proofs.Common.{◌≡◌, ℕ, zero, suc, ◌+◌, ◌<◌, ◌≤◌, List, [], ◌∷◌, ◌++◌, Bool, true, false, cond, not, length, map, take, get_or, refl, ap, ◌∙◌, arith, add-one, Option, Some, None, if◌then◌else◌, flat_map}
 use Rattle.std.proofs.lemmas.List.{take_more}
 use Rattle.std.proofs.lemmas.List.Sums.{sum_by-cons}
-use Rattle.arrow2_model.specs.Parts.{part, falses}
+use Rattle.arrow2_model.specs.Lists.{part, falses}
 use Rattle.arrow2_walks.specs.Runs.{runs, shift_run, with_true}
 use Rattle.arrow2_walks.specs.Selections.{selection, choice, non_null_values}
 use Rattle.arrow2_walks.specs.Zipped.{zipped}

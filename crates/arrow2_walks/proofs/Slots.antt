@@ -1,10 +1,8 @@
 -- A validity zip iterates over its slots where its parts iterate over lists of equal length.
-use Rattle.std.proofs.Common.{◌≡◌, ◌⊎◌, inl, inr, suc, List, [], ◌∷◌, ◌++◌, Bool, true, false, map, length, refl, sym, ap, ◌∙◌, subst, arith, add-one}
-use Rattle.std.specs.Prelude.{Option, Some, None, MatchOption, option_map}
+use Rattle.std.proofs.Common.{◌≡◌, ◌⊎◌, inl, inr, suc, List, [], ◌∷◌, ◌++◌, Bool, true, false, map, length, refl, sym, ap, ◌∙◌, subst, arith, add-one, Option, Some, None, MatchOption, option_map, length-append}
 use Rattle.std.proofs.iter.runs.Made.{took}
 use Rattle.std.specs.Iterator.Runs.{Run}
 use Rattle.std.specs.Iterator.{Yields, YieldsFirst, YieldsLast, YieldsFirstBy, YieldsLastBy}
-use Rattle.std.proofs.lemmas.List.{length-append}
 use Rattle.arrow2_walks.specs.Zipped.{slot, zipped}
 use Rattle.arrow2_walks.specs.declared.zip_validity.ZipValidityIter.{ZipValidityIter}
 use Rattle.arrow2_walks.specs.declared.zip_validity.ZipValidity.{ZipValidity}

@@ -1,8 +1,7 @@
 -- The runs of a part of the bits, by the first indices that are set and not set.
 use Rattle.std.proofs.Common.{◌≡◌, ℕ, ◌+◌, ◌-◌, ◌*◌, ◌<◌, ◌≤◌, inl, inr, List, [], ◌∷◌, true, false, length, get_or, sym, ap, ◌∙◌, arith}
 use Rattle.std.proofs.lemmas.Bool.{true≢false, cases_lt}
-use Rattle.arrow2_model.specs.Bits.{bits}
-use Rattle.arrow2_model.specs.Parts.{part}
+use Rattle.arrow2_model.specs.Lists.{bits, part}
 use Rattle.arrow2_walks.specs.Runs.{runs_from}
 use Rattle.arrow2_model.proofs.Parts.{get_or-part}
 use Rattle.arrow2_walks.proofs.RunSteps.{runs_from_start, runs_from_next, runs_from_end, runs_from_until, runs_from_last}

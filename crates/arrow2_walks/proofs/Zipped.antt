@@ -1,11 +1,9 @@
 -- Values with their validity: how many they are, index by index, in parts, with others after them, and how many are
 -- null.
-use Rattle.std.proofs.Common.{◌≡◌, ℕ, zero, suc, ◌<◌, List, [], ◌∷◌, ◌++◌, Bool, true, false, not, cond, length, take, drop, get_or, refl, ap, sym, ◌∙◌, arith}
-use Rattle.std.specs.Prelude.{Option, Some, None, is_some, unwrap_or, count_by}
+use Rattle.std.proofs.Common.{◌≡◌, ℕ, zero, suc, ◌<◌, List, [], ◌∷◌, ◌++◌, Bool, true, false, not, cond, length, take, drop, get_or, refl, ap, sym, ◌∙◌, arith, Option, Some, None, is_some, unwrap_or, count_by, is_none}
 use Rattle.std.specs.Bool.{then_some}
-use Rattle.std.specs.Option.{is_none}
 use Rattle.std.proofs.lemmas.List.Sums.{sum_by-cons}
-use Rattle.arrow2_model.specs.Parts.{part, falses}
+use Rattle.arrow2_model.specs.Lists.{part, falses}
 use Rattle.arrow2_walks.specs.Zipped.{slot, zipped}
 
 module _ {X : Type 0} where

@@ -1,7 +1,7 @@
 -- Indices of bits, and the runs that an iterator has left.
 use Rattle.std.specs.Prelude.{◌≡◌, ℕ, ◌+◌, ◌<◌, ◌≤◌, List, Bool, Option, not, get_or, false}
 use Rattle.std.specs.Iterator.{YieldsFirst}
-use Rattle.arrow2_model.specs.Bits.{bit}
+use Rattle.arrow2_model.specs.Lists.{bit}
 
 -- p is the first index from `at` up to `end` whose bit, counted from bit `offset` on, is `value`: `end` where none is
 pub record IsFirst (items : List Bool) (offset at end : ℕ) (value : Bool) (p : ℕ) : Type 0 where

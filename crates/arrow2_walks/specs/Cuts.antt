@@ -1,7 +1,6 @@
 -- A bitmap in pieces, and the number of reads of its cuts.
-use Rattle.std.specs.Prelude.{ℕ, zero, suc, ◌+◌, ◌-◌, ◌*◌, ◌≤◌, ◌<◌, List, [], ◌∷◌, Bool, length, map, take, drop, slice_index_or}
-use Rattle.std.specs.List.{flat_map}
-use Rattle.arrow2_model.specs.Storage.{BitmapStorage, items_of}
+use Rattle.std.specs.Prelude.{ℕ, zero, suc, ◌+◌, ◌-◌, ◌*◌, ◌≤◌, ◌<◌, List, [], ◌∷◌, Bool, length, map, take, drop, slice_index_or, flat_map}
+use Rattle.arrow2_model.specs.Lists.{BitmapStorage, items_of}
 use Rattle.arrow2_model.specs.Touched.{cut_budget, total_cut_budget}
 
 -- a piece: its items, the bytes that store them, and the bit at which they begin

@@ -58,7 +58,7 @@ pub struct ArrayIter<A: ArrayAccessor> {
 
 impl<A: ArrayAccessor> Model for ArrayIter<A> {
     ghost use Rattle.std.specs.Prelude.{◌-◌, ◌≤◌, List, Option, length};
-    ghost use Rattle.arrow2_model.specs.Parts.{part};
+    ghost use Rattle.arrow2_model.specs.Lists.{part};
 
     ghost Value = { List (Option A.Seen) };
 
@@ -151,7 +151,7 @@ pub struct ArrayValuesIter<A: ArrayAccessor> {
 
 impl<A: ArrayAccessor> Model for ArrayValuesIter<A> {
     ghost use Rattle.std.specs.Prelude.{◌-◌, ◌≤◌, List, length};
-    ghost use Rattle.arrow2_model.specs.Parts.{part};
+    ghost use Rattle.arrow2_model.specs.Lists.{part};
 
     ghost Value = { List A.Seen };
 

@@ -1,6 +1,6 @@
 //! Finds the next index of a set bit, or of an unset one, by words.
 ghost use Rattle.std.specs.Prelude.{◌≡◌, ℕ, ◌+◌, ◌*◌, ◌<◌, ◌≤◌, not, get_or, false, length};
-ghost use Rattle.arrow2_model.specs.Bits.{bit, bits};
+ghost use Rattle.arrow2_model.specs.Lists.{bit, bits};
 ghost use Rattle.arrow2_walks.specs.Cursor.{IsFirst, IsRead};
 
 use arrow2_bits::word_from;

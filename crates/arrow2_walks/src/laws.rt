@@ -1,7 +1,6 @@
 //! Laws of the iterators. Each is the contract of a function with an empty body.
-ghost use Rattle.std.specs.Prelude.{◌≡◌, ◌↔◌, ℕ, ◌+◌, ◌<◌, ◌≤◌, All, Bool, List, false, get_or, length, slice_index_or, true};
-ghost use Rattle.std.specs.List.{sum_by, flat_map};
-ghost use Rattle.arrow2_model.specs.Parts.{falses, part};
+ghost use Rattle.std.specs.Prelude.{◌≡◌, ◌↔◌, ℕ, ◌+◌, ◌<◌, ◌≤◌, All, Bool, List, false, get_or, length, slice_index_or, true, sum_by, flat_map};
+ghost use Rattle.arrow2_model.specs.Lists.{falses, part};
 ghost use Rattle.arrow2_walks.specs.Runs.{runs, AreRuns, InRuns};
 ghost use Rattle.arrow2_walks.specs.Selections.{selection};
 ghost use Rattle.arrow2_walks.specs.Slots.{OptionalZipYieldsFirst, OptionalZipYieldsLast, ZipYieldsFirst, ZipYieldsLast};

@@ -1,6 +1,6 @@
 //! A bitmap that is cut into consecutive slices, and the number of bytes that the cuts counted as read.
 ghost use Rattle.std.specs.Prelude.{◌≡◌, ◌+◌, ◌-◌, ◌*◌, ◌<◌, ◌≤◌, ◌∷◌, [], length, map, IfOk, OnOk, OnErr};
-ghost use Rattle.arrow2_model.specs.Storage.{BitmapStorage, items_of};
+ghost use Rattle.arrow2_model.specs.Lists.{BitmapStorage, items_of};
 ghost use Rattle.arrow2_model.specs.Touched.{cut_reads, lg, slice_reads};
 ghost use Rattle.arrow2_types.specs.Failures.{OnlyOutOfMemory};
 ghost use Rattle.arrow2_types.specs.declared.error.Error.TheVariants.{OutOfMemory};

@@ -1,9 +1,8 @@
 //! The runs of set bits of a bitmap.
 ghost use Rattle.std.specs.Prelude.{◌≡◌, ◌+◌, length};
 ghost use Rattle.std.specs.Iterator.{YieldsFirst, item_count};
-ghost use Rattle.arrow2_model.specs.Parts.{falses};
+ghost use Rattle.arrow2_model.specs.Lists.{falses, items_of};
 ghost use Rattle.arrow2_walks.specs.Runs.{runs};
-ghost use Rattle.arrow2_model.specs.Storage.{items_of};
 ghost use Rattle.arrow2_walks.specs.Cursor.{RunsLeft, GivesRun};
 
 use crate::cursor::{BitCursor, find_bit};
@@ -37,8 +36,7 @@ pub struct SlicesIterator<'a> {
 
 impl<'a> Model for SlicesIterator<'a> {
     ghost use Rattle.std.specs.Prelude.{◌+◌, ◌*◌, ◌≤◌, length};
-    ghost use Rattle.arrow2_model.specs.Bits.{bits};
-    ghost use Rattle.arrow2_model.specs.Parts.{part};
+    ghost use Rattle.arrow2_model.specs.Lists.{bits, part};
     ghost use Rattle.arrow2_walks.specs.Runs.{runs_from};
     ghost use Rattle.arrow2_walks.specs.Cursor.{IsRead, RunsLeft};
 

@@ -3,8 +3,7 @@ ghost use Rattle.std.specs.Prelude.{◌≡◌, ◌⊎◌, ◌<◌, Bool, true, N
 ghost use Rattle.std.specs.Option.{ForSome};
 ghost use Rattle.std.specs.Iterator.{UpTo};
 ghost use Rattle.std.specs.Iterator.SizeHint.{IsWithinCount};
-ghost use Rattle.arrow2_model.specs.Parts.{falses};
-ghost use Rattle.arrow2_model.specs.Storage.{items_of};
+ghost use Rattle.arrow2_model.specs.Lists.{falses, items_of};
 ghost use Rattle.arrow2_walks.specs.Zipped.{slot};
 ghost use Rattle.arrow2_walks.specs.Zips.{values_of, validity_of, either_values, MatchZip, IsRequiredAnd, IsOptionalAnd, GivesAsMany, GiveEquallyMany, zip_validity_steps, either_steps};
 

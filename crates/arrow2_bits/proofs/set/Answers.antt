@@ -1,8 +1,7 @@
-use Rattle.std.proofs.Common.{◌≡◌, ℕ, ◌*◌, ◌%◌, ◌^◌, Bool, List, false, get_or, set, bit_and, ap, sym, ◌∙◌, arith}
+use Rattle.std.proofs.Common.{◌≡◌, ℕ, ◌*◌, ◌%◌, ◌^◌, Bool, List, false, get_or, set, bit_and, ap, sym, ◌∙◌, arith, get_or-set_same, set-set}
 use Rattle.std.specs.Int.{bit_not}
 use Rattle.std.specs.Int as width
-use Rattle.std.proofs.lemmas.List.{get_or-set_same, set-set}
-use Rattle.arrow2_model.specs.Bits.{bit, unnum}
+use Rattle.arrow2_model.specs.Lists.{bit, unnum}
 use Rattle.arrow2_model.proofs.Bits.{length-unnum, get_or-unnum, unnum-and-not}
 use Rattle.arrow2_model.proofs.Canonical.{unnum-or_bool}
 use Rattle.arrow2_bits.proofs.Tables.{kept_at, written_at}

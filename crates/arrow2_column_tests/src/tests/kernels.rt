@@ -4,7 +4,7 @@ ghost use Rattle.std.specs.Prelude.{◌≡◌, ◌↔◌, ◌<◌, All, IsTrue, 
 ghost use Rattle.arrow2.specs.Binary.{binary_items};
 ghost use Rattle.arrow2.specs.Items.{boolean_items};
 ghost use Rattle.arrow2.specs.Primitive.{primitive_items};
-ghost use Rattle.arrow2.specs.Storage.{items_of};
+ghost use Rattle.arrow2.specs.Lists.{items_of};
 ghost use Rattle.arrow2.specs.Take.{IsInBoundsOrNull};
 
 use super::checks::{assert_array, assert_booleans, assert_list, assert_text, assert_that, ok};

@@ -1,7 +1,7 @@
 //! Arrays of numbers and their kernels.
 ghost use Rattle.std.specs.Prelude.{◌≡◌, length};
 ghost use Rattle.arrow2.specs.Primitive.{primitive_items};
-ghost use Rattle.arrow2.specs.Storage.{items_of};
+ghost use Rattle.arrow2.specs.Lists.{items_of};
 
 use super::checks::{
     assert_array, assert_booleans, assert_compares, assert_list, assert_made, assert_prints,

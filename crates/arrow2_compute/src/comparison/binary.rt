@@ -10,7 +10,7 @@ ghost use Rattle.std.specs.Simd.Lanes.{zip2};
 ghost use Rattle.arrow2_array.specs.Items.{boolean_items};
 ghost use Rattle.arrow2_bitmap.specs.Predicates.{IsCallableWithEach, IsCallableWithPairs, IsPairResultAt, IsResultAt, ReturnsOnEach, ReturnsOnPairs};
 ghost use Rattle.arrow2_compute.specs.Comparisons.{bytes_cmp, bytes_eq, compared};
-ghost use Rattle.arrow2_model.specs.Storage.{items_of};
+ghost use Rattle.arrow2_model.specs.Lists.{items_of};
 ghost use Rattle.arrow2_numeric.specs.Pairs.{of_both};
 ghost use Rattle.arrow2_text.specs.Binary.{binary_items, binary_values};
 ghost use Rattle.arrow2_types.specs.Failures.{OnlyOutOfMemory};

@@ -1,7 +1,7 @@
 //! The bodies of the exports on offsets, for either width.
 ghost use Rattle.std.specs.Prelude.{◌≡◌, ◌≢◌, ◌+◌, ◌-◌, ◌<◌, ◌↔◌, ◌⊎◌, pos, map, length, IfNone, IfSome};
 ghost use Rattle.arrow2_offset.specs.Offsets.{AreOffsets, AreOffsetsUpTo, last_offset, lengths_of, offsets_list};
-ghost use Rattle.arrow2_model.specs.Parts.{part};
+ghost use Rattle.arrow2_model.specs.Lists.{part};
 ghost use Rattle.arrow2_offset.specs.Failures.{first_broken_rule};
 ghost use Rattle.arrow2_ffi.specs.OffsetWrites.{RebasesTo, WritesFromOffsets};
 ghost use Rattle.arrow2_ffi.specs.Rules.{rule_code, ReportsBrokenRule};

@@ -1,9 +1,7 @@
 //! Appends many items at once.
 ghost use Rattle.std.specs.Prelude.{◌≡◌, ◌+◌, ◌*◌, ◌%◌, ◌<◌, ◌≤◌, ◌^◌, ◌++◌, length, take, replicate};
 ghost use Rattle.arrow2_packed_bits.specs.Growth.{Appends, Pushes};
-ghost use Rattle.arrow2_model.specs.Bits.{bits};
-ghost use Rattle.arrow2_model.specs.Parts.{part};
-ghost use Rattle.arrow2_model.specs.Words.{full_words};
+ghost use Rattle.arrow2_model.specs.Lists.{bits, part, full_words};
 
 use crate::packed_bits::PackedBits;
 use crate::packing::{padded_block, word_of};

@@ -1,6 +1,6 @@
 //! Boolean arrays: reading, printing and errors.
 ghost use Rattle.std.specs.Prelude.{◌≡◌, length};
-ghost use Rattle.arrow2_model.specs.Storage.{items_of};
+ghost use Rattle.arrow2_model.specs.Lists.{items_of};
 ghost use Rattle.arrow2_array.specs.Items.{boolean_items};
 
 use super::checks::{assert_that, gives, ok, rejects, shows};

@@ -1,6 +1,6 @@
 //! Worked examples of bitmaps, and storage that shows.
 ghost use Rattle.std.specs.Prelude.{◌≡◌, IfOk, length};
-ghost use Rattle.arrow2_model.specs.Storage.{items_of};
+ghost use Rattle.arrow2_model.specs.Lists.{items_of};
 
 use super::checks::{assert_that, bytes_of, gives, has, makes, ok, rejects, right, shows, stores};
 use super::lists;

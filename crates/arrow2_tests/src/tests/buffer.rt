@@ -1,7 +1,7 @@
 //! Buffers as their callers see them: sharing, writing through a loan, and printed texts.
 ghost use Rattle.std.specs.Prelude.{◌≡◌, length, replicate, IfOk};
 ghost use Rattle.std.specs.Bool.{OnTrue, OnFalse};
-ghost use Rattle.arrow2_model.specs.Buffers.{buffer_items, whole_buffer};
+ghost use Rattle.arrow2_model.specs.Lists.{buffer_items, whole_buffer};
 
 use super::checks::{assert_that, has, left_value, ok, right, shows};
 use arrow2_buffer::laws::{slice_of_a_slice, written_items_are_the_items};

@@ -1,7 +1,7 @@
 //! Checks that many tests need, each proved once.
 ghost use Rattle.std.specs.Prelude.{◌≡◌, Ok, IsTrue};
 ghost use Rattle.std.specs.Iterator.{IsFinite};
-ghost use Rattle.arrow2_model.specs.Storage.{items_of};
+ghost use Rattle.arrow2_model.specs.Lists.{items_of};
 
 use arrow2_bitmap::{Bitmap, MutableBitmap};
 use arrow2_types::{Error, NativeType, PrimitiveType, Result};

@@ -1,7 +1,7 @@
 //! Worked examples of kernels, and callers of their clauses.
 ghost use Rattle.std.specs.Prelude.{◌≡◌, ◌+◌, ◌%◌, ◌^◌, [], ◌∷◌, length, IfOk};
 ghost use Rattle.arrow2_model.specs.Kernels.{unary_kernel, binary_kernel};
-ghost use Rattle.arrow2_model.specs.Storage.{items_of};
+ghost use Rattle.arrow2_model.specs.Lists.{items_of};
 ghost use Rattle.arrow2_model.specs.Tables.{each};
 
 use super::checks::{assert_that, bitmap_from, makes, mutable_copy, ok, stores};

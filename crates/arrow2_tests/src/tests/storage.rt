@@ -1,7 +1,7 @@
 //! Tests, for the calls that no command of a script makes, that the result depends only on the list, whatever bit
 //! offset, padding bits and spare bytes the list has in memory. Calls that show the storage are not tested here.
 ghost use Rattle.std.specs.Prelude.{◌≡◌, ◌<◌, length};
-ghost use Rattle.arrow2_model.specs.Storage.{items_of};
+ghost use Rattle.arrow2_model.specs.Lists.{items_of};
 
 use super::checks::{assert_that, gives, mutable_copy, ok};
 use super::lists::{self, ListResult};

@@ -1,5 +1,4 @@
-use Rattle.std.proofs.Common.{◌≡◌, ◌∙◌, ◌++◌, ◌+◌, ◌<◌, ℕ, List, length, take, get_or, None, true, refl, sym, ap, subst, arith, append_assoc, take_all}
-use Rattle.std.specs.Prelude.{codes}
+use Rattle.std.proofs.Common.{◌≡◌, ◌∙◌, ◌++◌, ◌+◌, ◌<◌, ℕ, List, length, take, get_or, None, true, refl, sym, ap, subst, arith, append_assoc, take_all, codes}
 use Rattle.std.specs.Fmt.{HasWrittenStyled}
 use Rattle.std.proofs.Output.{has_written_styled_append, has_written_styled_of_eq}
 use Rattle.arrow2_model.proofs.TextWrites.{plain_written}

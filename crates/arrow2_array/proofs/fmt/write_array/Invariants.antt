@@ -1,5 +1,4 @@
-use Rattle.std.proofs.Common.{◌++◌, take}
-use Rattle.std.specs.Prelude.{codes}
+use Rattle.std.proofs.Common.{◌++◌, take, codes}
 use Rattle.std.specs.Fmt.{HasWrittenStyled, IsFlush}
 use Rattle.arrow2_array.specs.ArrayTexts.{comma_list}
 use Rattle.arrow2_array.specs.Items.{boolean_items}

@@ -1,5 +1,5 @@
 use Rattle.std.proofs.Common.{◌∙◌, ap, replicate, true}
-use Rattle.arrow2_model.specs.Storage.{items_of}
+use Rattle.arrow2_model.specs.Lists.{items_of}
 use Rattle.arrow2_validity.specs.OptionalValidity.{valid_items}
 use Rattle.arrow2_array.proofs.Tables.{all_known, all_set, paired_left, paired_right}
 use Rattle.arrow2_array.proofs.kleene.validity_by.Goals as goal

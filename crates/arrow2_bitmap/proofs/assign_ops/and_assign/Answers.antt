@@ -1,5 +1,5 @@
 use Rattle.std.proofs.Common.{◌∙◌, List, Bool, false, ap, inr, length, replicate}
-use Rattle.arrow2_model.specs.Storage.{items_of}
+use Rattle.arrow2_model.specs.Lists.{items_of}
 use Rattle.arrow2_bitmap.proofs.Constant.{and_false, and_true}
 use Rattle.arrow2_bitmap.proofs.assign_ops.and_assign.Goals as goal
 

@@ -1,6 +1,6 @@
 use Rattle.std.proofs.Common.{◌∙◌, ℕ, List, [], ◌∷◌, Bool, slice_index, ap, refl}
-use Rattle.arrow2_model.specs.Bits.{unnum}
-use Rattle.arrow2_model.specs.Kernels.{kernel, word}
+use Rattle.arrow2_model.specs.Lists.{unnum, word}
+use Rattle.arrow2_model.specs.Kernels.{kernel}
 use Rattle.arrow2_model.specs.Tables.{each}
 use Rattle.arrow2_model.proofs.RowKernels.{binary_is}
 use Rattle.arrow2_kernels.proofs.WordResults.{binary_result}

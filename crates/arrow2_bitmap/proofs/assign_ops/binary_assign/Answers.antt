@@ -1,9 +1,7 @@
 use Rattle.std.proofs.Common.{◌≡◌, ◌∙◌, ℕ, subst, length, List, [], ◌∷◌, Bool, sym, ap}
-use Rattle.arrow2_model.specs.Bits.{bits}
-use Rattle.arrow2_model.specs.Kernels.{binary_kernel, word}
+use Rattle.arrow2_model.specs.Lists.{bits, word, part, items_of}
+use Rattle.arrow2_model.specs.Kernels.{binary_kernel}
 use Rattle.arrow2_model.specs.Tables.{each}
-use Rattle.arrow2_model.specs.Parts.{part}
-use Rattle.arrow2_model.specs.Storage.{items_of}
 use Rattle.arrow2_kernels.specs.WordResults.{AreJoinedResults, MayReturnBinary}
 use Rattle.arrow2_bitmap.proofs.assign_ops.binary_assign.Given as given
 use Rattle.arrow2_bitmap.proofs.assign_ops.binary_assign.Goals as goal

@@ -1,6 +1,5 @@
 use Rattle.std.proofs.Common.{◌∙◌, ℕ, List, [], ◌∷◌, Bool, ap, length, take}
-use Rattle.arrow2_model.specs.Bits.{bits}
-use Rattle.arrow2_model.specs.Storage.{items_of}
+use Rattle.arrow2_model.specs.Lists.{bits, items_of}
 use Rattle.arrow2_model.specs.Tables.{each}
 use Rattle.arrow2_bitmap.proofs.Lanes.{shown_items, shown_length}
 use Rattle.arrow2_bitmap.proofs.assign_ops.binary_assign_table.Goals as goal

@@ -1,5 +1,5 @@
 use Rattle.std.proofs.Common.{◌∙◌, List, Bool, true, ap, inr, length, replicate}
-use Rattle.arrow2_model.specs.Storage.{items_of}
+use Rattle.arrow2_model.specs.Lists.{items_of}
 use Rattle.arrow2_bitmap.proofs.Constant.{or_true, or_false}
 use Rattle.arrow2_bitmap.proofs.assign_ops.or_assign.Goals as goal
 

@@ -1,5 +1,5 @@
 use Rattle.std.proofs.Common.{◌∙◌, ℕ, [], ◌∷◌, slice_index, ap, refl, rules}
-use Rattle.arrow2_model.specs.Bits.{unnum}
+use Rattle.arrow2_model.specs.Lists.{unnum}
 use Rattle.arrow2_model.specs.Kernels.{kernel}
 use Rattle.arrow2_model.proofs.RowKernels.{unary_is}
 use Rattle.arrow2_bitmap.proofs.assign_ops.unary_assign.Goals as goal

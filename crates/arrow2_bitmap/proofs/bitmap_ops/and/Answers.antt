@@ -1,6 +1,6 @@
 use Rattle.std.proofs.Common.{◌∙◌, List, Bool, false, replicate, ap}
 use Rattle.std.proofs.lemmas.Result.{IfOk-weaker}
-use Rattle.arrow2_model.specs.Storage.{items_of}
+use Rattle.arrow2_model.specs.Lists.{items_of}
 use Rattle.arrow2_bitmap.proofs.Constant.{and_false}
 use Rattle.arrow2_bitmap.proofs.bitmap_ops.and.Goals as goal
 

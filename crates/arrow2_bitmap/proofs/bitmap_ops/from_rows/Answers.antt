@@ -3,8 +3,7 @@ use Rattle.std.proofs.lemmas.Result.{IfOk-weaker}
 use Rattle.arrow2_model.proofs.Kernels.{table_word}
 use Rattle.arrow2_model.proofs.RowKernels.{rows_kernel, rows_table, acts_rows}
 use Rattle.arrow2_bitmap.proofs.PackedBitmaps.{packed_bytes}
-use Rattle.arrow2_model.specs.Bits.{bits}
-use Rattle.arrow2_model.specs.Storage.{items_of}
+use Rattle.arrow2_model.specs.Lists.{bits, items_of}
 use Rattle.arrow2_kernels.specs.WordResults.{AreJoinedResults, MayReturnRow}
 use Rattle.arrow2_bitmap.proofs.bitmap_ops.from_rows.Given as given
 use Rattle.arrow2_bitmap.proofs.bitmap_ops.from_rows.Goals as goal

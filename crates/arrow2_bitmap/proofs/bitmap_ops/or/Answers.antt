@@ -1,6 +1,6 @@
 use Rattle.std.proofs.Common.{◌∙◌, List, Bool, true, replicate, ap}
 use Rattle.std.proofs.lemmas.Result.{IfOk-weaker}
-use Rattle.arrow2_model.specs.Storage.{items_of}
+use Rattle.arrow2_model.specs.Lists.{items_of}
 use Rattle.arrow2_bitmap.proofs.Constant.{or_true}
 use Rattle.arrow2_bitmap.proofs.bitmap_ops.or.Goals as goal
 

@@ -1,9 +1,6 @@
 use Rattle.std.proofs.Common.{◌≡◌, ◌∙◌, ℕ, List, [], ◌∷◌, Bool, length, slice_index, sym, ap}
 use Rattle.std.proofs.lemmas.Result.{IfOk-weaker}
-use Rattle.arrow2_model.specs.Bits.{bits, unnum}
-use Rattle.arrow2_model.specs.Kernels.{word}
-use Rattle.arrow2_model.specs.Parts.{part}
-use Rattle.arrow2_model.specs.Storage.{items_of}
+use Rattle.arrow2_model.specs.Lists.{bits, unnum, word, part, items_of}
 use Rattle.arrow2_model.proofs.RowKernels.{unary_is}
 use Rattle.arrow2_model.specs.Rows.{AreRowsOf}
 use Rattle.arrow2_kernels.specs.WordResults.{AreJoinedResults, MayReturnRow}

@@ -1,6 +1,6 @@
 use Rattle.std.proofs.Common.{◌∙◌, [], ◌∷◌, ap, sym}
 use Rattle.std.proofs.lemmas.Result.{IfOk-weaker}
-use Rattle.arrow2_model.specs.Storage.{items_of}
+use Rattle.arrow2_model.specs.Lists.{items_of}
 use Rattle.arrow2_model.specs.Tables.{each}
 use Rattle.arrow2_bitmap.proofs.Lanes.{shown_items, shown_length}
 use Rattle.arrow2_bitmap.proofs.PackedBitmaps.{packed_bytes}

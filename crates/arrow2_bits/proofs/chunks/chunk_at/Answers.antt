@@ -1,5 +1,5 @@
 use Rattle.std.proofs.Common.{◌∙◌, ap, sym, arith, ◌*◌, take, drop, ◌-◌, ◌+◌}
-use Rattle.arrow2_model.specs.Bits.{bits}
+use Rattle.arrow2_model.specs.Lists.{bits}
 use Rattle.arrow2_bits.proofs.WordLoads.{low_word, merged_word}
 use Rattle.arrow2_bits.proofs.chunks.chunk_at.Goals as goal
 

@@ -1,6 +1,5 @@
 use Rattle.std.proofs.Common.{◌≡◌, ◌+◌, ◌*◌}
-use Rattle.arrow2_model.specs.Bits.{bits}
-use Rattle.arrow2_model.specs.Parts.{part, falses}
+use Rattle.arrow2_model.specs.Lists.{bits, part, falses}
 use Rattle.arrow2_bits.proofs.counts.ones_in_words.Given as goal
 
 abbrev pub invariant-loop-i : goal.invariant-loop-i

@@ -1,6 +1,5 @@
 use Rattle.std.proofs.Common.{◌∙◌, ◌+◌, ◌-◌, ℕ, List, ap, refl, arith}
-use Rattle.arrow2_model.specs.Bits.{bits}
-use Rattle.arrow2_model.specs.Parts.{part, falses}
+use Rattle.arrow2_model.specs.Lists.{bits, part, falses}
 use Rattle.arrow2_model.proofs.Touched.{slice_reads-all, slice_reads-short, slice_reads-long, slice_reads_le}
 use Rattle.arrow2_bits.proofs.ZeroCounts.{zeros_between}
 use Rattle.arrow2_bits.proofs.counts.recount.Goals as goal

@@ -1,6 +1,5 @@
 use Rattle.std.proofs.Common.{◌≡◌, ℕ, ◌-◌, ◌*◌, List, ap, ◌∙◌, arith}
-use Rattle.arrow2_model.specs.Bits.{bits}
-use Rattle.arrow2_model.specs.Parts.{part, falses}
+use Rattle.arrow2_model.specs.Lists.{bits, part, falses}
 use Rattle.arrow2_bits.proofs.counts.zeros_in_bytes.Goals as goal
 
 pub returns-clause-zeros : goal.returns-clause-zeros

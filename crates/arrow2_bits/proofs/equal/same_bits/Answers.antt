@@ -1,9 +1,7 @@
-use Rattle.std.proofs.Common.{◌≡◌, ◌∙◌, List, Bool, take, length, subst, ap, sym, refl}
-use Rattle.arrow2_model.specs.Bits.{bits, unnum}
-use Rattle.arrow2_model.specs.Parts.{part}
+use Rattle.std.proofs.Common.{◌≡◌, ◌∙◌, List, Bool, take, length, subst, ap, sym, refl, eq-eqb, eqb-true}
+use Rattle.arrow2_model.specs.Lists.{bits, unnum, part}
 use Rattle.arrow2_model.proofs.Cursors.{length-part_bits}
 use Rattle.arrow2_bits.proofs.WordComparison.{as_many_words, ended_alike}
-use Rattle.std.proofs.lemmas.Bool.{eq-eqb, eqb-true}
 use Rattle.arrow2_bits.proofs.equal.same_bits.Goals as goal
 
 pub loop-word-init : goal.loop-word-init

@@ -1,7 +1,5 @@
 use Rattle.std.proofs.Common.{◌≡◌, ◌↔◌, length}
-use Rattle.arrow2_model.specs.Bits.{bits}
-use Rattle.arrow2_model.specs.Parts.{part}
-use Rattle.arrow2_model.specs.Words.{full_words, rest}
+use Rattle.arrow2_model.specs.Lists.{bits, part, full_words, rest}
 use Rattle.arrow2_bits.proofs.equal.same_bits.Given as goal
 
 abbrev pub invariant-loop-word : goal.invariant-loop-word

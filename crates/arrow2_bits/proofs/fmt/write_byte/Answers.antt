@@ -1,7 +1,7 @@
 use Rattle.std.proofs.Common.{◌∷◌, [], ◌-◌, ◌++◌, true, refl, sym, ap, ◌∙◌, arith}
 use Rattle.std.proofs.Output.{has_written_styled_append, has_written_styled_of_eq}
 use Rattle.std.specs.Char.{encode_utf8}
-use Rattle.arrow2_model.specs.Bits.{bit}
+use Rattle.arrow2_model.specs.Lists.{bit}
 use Rattle.arrow2_model.specs.Shown.{is_shown, bit_character}
 use Rattle.arrow2_model.proofs.Shown.{shown_bits, shown_bits_none, shown_bits_more, shown_bits_all, encode_bit_character, bit_alone}
 use Rattle.arrow2_bits.proofs.fmt.write_byte.Goals as goal

@@ -1,6 +1,4 @@
-use Rattle.std.proofs.Common.{true, refl, ap, ◌∙◌, ◌++◌, ◌/◌}
-use Rattle.std.specs.Prelude.{codes}
-use Rattle.std.proofs.lemmas.List.{append_assoc}
+use Rattle.std.proofs.Common.{true, refl, ap, ◌∙◌, ◌++◌, ◌/◌, codes, append_assoc}
 use Rattle.std.proofs.Output.{has_written_styled_append, has_written_styled_of_eq}
 use Rattle.arrow2_bits.specs.Digits.{four_digits}
 use Rattle.arrow2_bits.proofs.Tables.{halves}

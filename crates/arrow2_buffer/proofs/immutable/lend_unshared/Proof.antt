@@ -1,8 +1,6 @@
 -- The part of the storage leaves in an `Option`, and the shared storage follows it.
 use mathlib.Core.Path.{◌≡◌, refl, ap, sym, subst, ◌∙◌}
 use Prim.Native.Nat.{ℕ, ◌≤◌, ◌-◌}
-use mathlib.Core.List.{List, [], ◌∷◌, ◌++◌}
-use lib.ListN.{length}
 use lib.Dec.{lit<}
 use mir.Syntax
 use mir.Syntax.{Body, Args, Fn, named, a_type}
@@ -40,10 +38,10 @@ use denote.Triple.Walked.{Stays, stay_dropped, walk_of, ends_at, says, Goes-spen
 use Rattle.std.proofs.raw_atomic.Walks.{proved}
 use Rattle.std.proofs.VecSteps.Element.{Some-of, none_of}
 use Rattle.std.proofs.VecSteps.Shapes.{after, head, arm_body}
-use Rattle.std.specs.Prelude.{Some, None, Option, IfSome}
+use Rattle.std.specs.Prelude.{Some, None, Option, IfSome, List, [], ◌∷◌, ◌++◌, length}
 use Rattle.std.specs.Rc.{rc_with_value}
 use Rattle.std.specs.contracts.option.Option as OP
-use Rattle.arrow2_model.specs.Parts.{part}
+use Rattle.arrow2_model.specs.Lists.{part}
 use Rattle.arrow2_buffer.specs.Loans.{LendsOwned, LendsPart, overwrite_lent, shared_row}
 use Rattle.arrow2_buffer.specs.contracts.bytes.Bytes as stored
 use Rattle.arrow2_buffer.specs.contracts.immutable.lend_unshared as f

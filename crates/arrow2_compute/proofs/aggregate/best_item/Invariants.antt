@@ -1,6 +1,4 @@
-use Rattle.std.proofs.Common.{◌≡◌, drop}
-use Rattle.std.specs.Prelude.{None}
-use Rattle.std.specs.Option.{option_copied}
+use Rattle.std.proofs.Common.{◌≡◌, drop, None, option_copied}
 use Rattle.arrow2_numeric.specs.Aggregates.{best_from}
 use Rattle.arrow2_text.specs.Binary.{binary_items}
 use Rattle.arrow2_walks.specs.Selections.{non_null_values}

@@ -1,6 +1,4 @@
-use Rattle.std.proofs.Common.{◌≡◌, ◌∙◌, All, subst, sym, arith}
-use Rattle.std.specs.Prelude.{Some}
-use Rattle.std.proofs.lemmas.List.{take_all}
+use Rattle.std.proofs.Common.{◌≡◌, ◌∙◌, All, subst, sym, arith, Some, take_all}
 use Rattle.arrow2_array.specs.Items.{boolean_items}
 use Rattle.arrow2_compute.proofs.Extremes.{is-wanted, no-value, none-wanted, other-found, wanted-found}
 use Rattle.arrow2_compute.proofs.aggregate.wanted_or_other.Goals as goal

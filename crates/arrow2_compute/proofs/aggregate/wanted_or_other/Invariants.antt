@@ -1,5 +1,4 @@
-use Rattle.std.proofs.Common.{◌≡◌, All, take}
-use Rattle.std.specs.Prelude.{Some}
+use Rattle.std.proofs.Common.{◌≡◌, All, take, Some}
 use Rattle.arrow2_array.specs.Items.{boolean_items}
 use Rattle.arrow2_compute.proofs.aggregate.wanted_or_other.Given as goal
 

@@ -1,7 +1,6 @@
-use Rattle.std.proofs.Common.{◌≡◌, List, Bool, false, not, length, map, replicate, ap, sym, subst, ◌∙◌}
-use Rattle.std.specs.Prelude.{IfOk}
+use Rattle.std.proofs.Common.{◌≡◌, List, Bool, false, not, length, map, replicate, ap, sym, subst, ◌∙◌, IfOk}
 use Rattle.std.proofs.lemmas.Result.{MatchResult-weaker}
-use Rattle.arrow2_model.specs.Storage.{items_of}
+use Rattle.arrow2_model.specs.Lists.{items_of}
 use Rattle.arrow2_validity.specs.OptionalValidity.{valid_items}
 use Rattle.arrow2_compute.proofs.Masks.{each-not, not-true}
 use Rattle.arrow2_compute.proofs.boolean.nulls_of.Goals as goal

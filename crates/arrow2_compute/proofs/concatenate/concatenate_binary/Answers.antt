@@ -1,10 +1,8 @@
-use Rattle.std.proofs.Common.{Bor, ◌≡◌, ◌∙◌, ◌+◌, ◌<◌, ◌≤◌, ◌^◌, ◌++◌, length, get_or, take, append_assoc, ap, subst, arith}
-use Rattle.std.specs.Prelude.{IfOk, sum_by}
-use Rattle.std.specs.List.{flat_map}
+use Rattle.std.proofs.Common.{Bor, ◌≡◌, ◌∙◌, ◌+◌, ◌<◌, ◌≤◌, ◌^◌, ◌++◌, length, get_or, take, append_assoc, ap, subst, arith, IfOk, sum_by, flat_map}
 use Rattle.std.proofs.lemmas.Grind.{common_steps}
 use Rattle.std.proofs.lemmas.List.{take_all, length-append, take_more}
 use Rattle.std.proofs.lemmas.List.Sums.{sum_by_push, sum_by-take-le}
-use Rattle.arrow2_model.specs.Buffers.{buffer_items}
+use Rattle.arrow2_model.specs.Lists.{buffer_items}
 use Rattle.arrow2_offset.specs.Offsets.{lengths_of}
 use Rattle.arrow2_text.specs.Binary.{binary_items}
 use Rattle.arrow2_compute.specs.Sizes.{slot_bytes}

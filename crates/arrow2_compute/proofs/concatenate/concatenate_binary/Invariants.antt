@@ -1,6 +1,4 @@
-use Rattle.std.proofs.Common.{◌≡◌, ◌+◌, ◌<◌, ◌≤◌, ◌^◌, ◌++◌, length, take}
-use Rattle.std.specs.Prelude.{sum_by}
-use Rattle.std.specs.List.{flat_map}
+use Rattle.std.proofs.Common.{◌≡◌, ◌+◌, ◌<◌, ◌≤◌, ◌^◌, ◌++◌, length, take, sum_by, flat_map}
 use Rattle.arrow2_text.specs.Binary.{binary_items}
 use Rattle.arrow2_compute.specs.Sizes.{slot_bytes}
 use Rattle.arrow2_compute.proofs.concatenate.concatenate_binary.Given as goal

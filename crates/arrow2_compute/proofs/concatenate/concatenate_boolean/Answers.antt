@@ -1,8 +1,5 @@
-use Rattle.std.proofs.Common.{Bor, ◌≡◌, ◌∙◌, ◌+◌, ◌++◌, length, get_or, take, append_assoc, ap, subst, arith}
-use Rattle.std.specs.Prelude.{IfOk}
-use Rattle.std.specs.List.{flat_map}
+use Rattle.std.proofs.Common.{Bor, ◌≡◌, ◌∙◌, ◌+◌, ◌++◌, length, get_or, take, append_assoc, ap, subst, arith, IfOk, flat_map, take_all, length-append}
 use Rattle.std.proofs.lemmas.Grind.{common_steps}
-use Rattle.std.proofs.lemmas.List.{take_all, length-append}
 use Rattle.arrow2_array.specs.Items.{BooleanParts, boolean_items}
 use Rattle.arrow2_compute.proofs.KernelLoops.{flat_map-more, length-first, part-whole}
 use Rattle.arrow2_compute.proofs.concatenate.concatenate_boolean.Goals as goal

@@ -1,5 +1,4 @@
-use Rattle.std.proofs.Common.{◌≡◌, ◌++◌, take}
-use Rattle.std.specs.List.{flat_map}
+use Rattle.std.proofs.Common.{◌≡◌, ◌++◌, take, flat_map}
 use Rattle.arrow2_array.specs.Items.{boolean_items}
 use Rattle.arrow2_compute.proofs.concatenate.concatenate_boolean.Given as goal
 

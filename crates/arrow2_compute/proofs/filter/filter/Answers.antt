@@ -1,9 +1,7 @@
-use Rattle.std.proofs.Common.{◌≡◌, ◌∙◌, length, ap, sym, arith}
-use Rattle.std.specs.Prelude.{is_some}
+use Rattle.std.proofs.Common.{◌≡◌, ◌∙◌, length, ap, sym, arith, is_some}
 use Rattle.std.proofs.lemmas.List.{length-map}
 use Rattle.std.proofs.Math.Seq.{take-length}
-use Rattle.arrow2_model.specs.Buffers.{buffer_items}
-use Rattle.arrow2_model.specs.Storage.{items_of}
+use Rattle.arrow2_model.specs.Lists.{buffer_items, items_of}
 use Rattle.arrow2_primitive.specs.Primitive.{primitive_items}
 use Rattle.arrow2_validity.specs.OptionalValidity.{valid_items}
 use Rattle.arrow2_walks.specs.Selections.{selection}

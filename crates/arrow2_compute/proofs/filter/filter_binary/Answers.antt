@@ -1,6 +1,5 @@
 use Rattle.std.proofs.Common.{◌∙◌, length, sum, ap, sym, subst}
-use Rattle.arrow2_model.specs.Buffers.{buffer_items}
-use Rattle.arrow2_model.specs.Storage.{items_of}
+use Rattle.arrow2_model.specs.Lists.{buffer_items, items_of}
 use Rattle.arrow2_offset.specs.Offsets.{lengths_of}
 use Rattle.arrow2_text.specs.Binary.{IsCompact, binary_items}
 use Rattle.arrow2_walks.specs.Selections.{selection}

@@ -1,7 +1,5 @@
-use Rattle.std.proofs.Common.{◌≡◌, ◌∙◌, ◌++◌, ap, rules}
-use Rattle.std.specs.List.{flat_map}
-use Rattle.arrow2_model.specs.Bits.{unnum}
-use Rattle.arrow2_model.specs.Parts.{part}
+use Rattle.std.proofs.Common.{◌≡◌, ◌∙◌, ◌++◌, ap, rules, flat_map}
+use Rattle.arrow2_model.specs.Lists.{unnum, part}
 use Rattle.arrow2_chunk.specs.Ones.{ones}
 use Rattle.arrow2_numeric.proofs.Selecting.{cut-ones}
 use Rattle.arrow2_compute.proofs.filter.push_values.Goals as goal

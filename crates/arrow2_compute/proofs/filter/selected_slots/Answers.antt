@@ -1,10 +1,6 @@
-use Rattle.std.proofs.Common.{◌≡◌, ◌∙◌, ℕ, ◌+◌, ◌<◌, ◌≤◌, ◌^◌, ◌++◌, All, List, get_or, length, sum, ap, sym, subst, arith, rules}
-use Rattle.std.specs.Prelude.{IfOk}
-use Rattle.std.specs.List.{flat_map}
+use Rattle.std.proofs.Common.{◌≡◌, ◌∙◌, ℕ, ◌+◌, ◌<◌, ◌≤◌, ◌^◌, ◌++◌, All, List, get_or, length, sum, ap, sym, subst, arith, rules, IfOk, flat_map}
 use Rattle.std.proofs.lemmas.Grind.{common_steps}
-use Rattle.arrow2_model.specs.Buffers.{buffer_items}
-use Rattle.arrow2_model.specs.Parts.{part}
-use Rattle.arrow2_model.specs.Storage.{items_of}
+use Rattle.arrow2_model.specs.Lists.{buffer_items, part, items_of}
 use Rattle.arrow2_offset.specs.Offsets.{lengths_of}
 use Rattle.arrow2_text.specs.Binary.{binary_items}
 use Rattle.arrow2_walks.specs.Runs.{runs}

@@ -1,6 +1,6 @@
 use Rattle.std.proofs.Common.{◌≡◌, ◌∙◌, ◌-◌, length, replicate, true, ap, sym, arith}
 use Rattle.std.proofs.lemmas.List.{length-replicate}
-use Rattle.arrow2_model.specs.Storage.{items_of}
+use Rattle.arrow2_model.specs.Lists.{items_of}
 use Rattle.arrow2_validity.specs.OptionalValidity.{valid_items}
 use Rattle.arrow2_validity.proofs.ValidItems.{items-some}
 use Rattle.arrow2_walks.specs.Selections.{selection}

@@ -1,5 +1,5 @@
 use Rattle.std.proofs.Common.{◌≡◌, ◌++◌, length}
-use Rattle.arrow2_model.specs.Storage.{items_of}
+use Rattle.arrow2_model.specs.Lists.{items_of}
 use Rattle.arrow2_numeric.specs.MaskedBlocks.{selected_left}
 use Rattle.arrow2_walks.specs.Selections.{selection}
 use Rattle.arrow2_compute.proofs.filter.selected_values.Given as goal

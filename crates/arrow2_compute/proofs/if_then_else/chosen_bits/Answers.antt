@@ -1,6 +1,5 @@
-use Rattle.std.proofs.Common.{◌≡◌, ◌∙◌, List, [], ◌∷◌, Bool, ap, subst}
-use Rattle.std.specs.Prelude.{IfOk}
-use Rattle.arrow2_model.specs.Storage.{items_of}
+use Rattle.std.proofs.Common.{◌≡◌, ◌∙◌, List, [], ◌∷◌, Bool, ap, subst, IfOk}
+use Rattle.arrow2_model.specs.Lists.{items_of}
 use Rattle.arrow2_model.specs.Tables.{each}
 use Rattle.arrow2_walks.specs.Selections.{choice}
 use Rattle.arrow2_compute.proofs.Choices.{chosen-bits}

@@ -1,6 +1,5 @@
-use Rattle.std.proofs.Common.{◌∙◌, ◌+◌, ◌<◌, ◌++◌, [], ◌∷◌, length, ap, sym, arith}
-use Rattle.std.specs.Prelude.{if◌then◌else◌}
-use Rattle.arrow2_model.specs.Storage.{items_of}
+use Rattle.std.proofs.Common.{◌∙◌, ◌+◌, ◌<◌, ◌++◌, [], ◌∷◌, length, ap, sym, arith, if◌then◌else◌}
+use Rattle.arrow2_model.specs.Lists.{items_of}
 use Rattle.arrow2_compute.proofs.Choices.{chosen-read}
 use Rattle.arrow2_compute.proofs.if_then_else.chosen_values.Goals as goal
 

@@ -1,6 +1,5 @@
-use Rattle.std.proofs.Common.{◌≡◌, ◌≤◌, length, take}
-use Rattle.std.specs.Prelude.{vec_len, vec_capacity}
-use Rattle.arrow2_model.specs.Storage.{items_of}
+use Rattle.std.proofs.Common.{◌≡◌, ◌≤◌, length, take, vec_len, vec_capacity}
+use Rattle.arrow2_model.specs.Lists.{items_of}
 use Rattle.arrow2_walks.specs.Selections.{choice}
 use Rattle.arrow2_compute.proofs.if_then_else.chosen_values.Given as goal
 

@@ -1,10 +1,7 @@
-use Rattle.std.proofs.Common.{inl, inr, ◌≡◌, ℕ, ◌+◌, ◌<◌, ◌≤◌, ◌^◌, List, Bool, None, false, get_or, length, take, ap, subst, ◌∙◌, arith}
-use Rattle.std.specs.Prelude.{Err, IfOk, sum_by, if◌then◌else◌}
-use Rattle.std.proofs.lemmas.List.{take_all}
+use Rattle.std.proofs.Common.{inl, inr, ◌≡◌, ℕ, ◌+◌, ◌<◌, ◌≤◌, ◌^◌, List, Bool, None, false, get_or, length, take, ap, subst, ◌∙◌, arith, Err, IfOk, sum_by, if◌then◌else◌, take_all}
 use Rattle.std.proofs.lemmas.List.Sums.{sum_by_push}
 use Rattle.arrow2_types.specs.declared.error.Error.TheVariants.{Overflow}
-use Rattle.arrow2_model.specs.Buffers.{buffer_items}
-use Rattle.arrow2_model.specs.Storage.{items_of}
+use Rattle.arrow2_model.specs.Lists.{buffer_items, items_of}
 use Rattle.arrow2_text.specs.Binary.{binary_items}
 use Rattle.arrow2_text.proofs.CollectedItems.{handed-on}
 use Rattle.arrow2_walks.specs.Selections.{choice}

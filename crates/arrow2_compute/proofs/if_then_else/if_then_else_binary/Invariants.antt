@@ -1,6 +1,5 @@
-use Rattle.std.proofs.Common.{◌≡◌, ◌≤◌, take}
-use Rattle.std.specs.Prelude.{sum_by}
-use Rattle.arrow2_model.specs.Storage.{items_of}
+use Rattle.std.proofs.Common.{◌≡◌, ◌≤◌, take, sum_by}
+use Rattle.arrow2_model.specs.Lists.{items_of}
 use Rattle.arrow2_text.specs.Binary.{binary_items}
 use Rattle.arrow2_walks.specs.Selections.{choice}
 use Rattle.arrow2_compute.specs.Sizes.{item_bytes}

@@ -1,6 +1,5 @@
-use Rattle.std.proofs.Common.{◌≡◌, List, Bool, None, get_or, subst, rules}
-use Rattle.std.specs.Prelude.{IfOk, is_some}
-use Rattle.arrow2_model.specs.Storage.{items_of}
+use Rattle.std.proofs.Common.{◌≡◌, List, Bool, None, get_or, subst, rules, IfOk, is_some}
+use Rattle.arrow2_model.specs.Lists.{items_of}
 use Rattle.arrow2_primitive.specs.Primitive.{primitive_items}
 use Rattle.arrow2_compute.specs.Take.{item_at}
 use Rattle.arrow2_compute.proofs.ItemsAtIndices.{stated-each}

@@ -1,6 +1,6 @@
 use Rattle.std.proofs.Common.{◌≡◌, ◌∙◌, ℕ, ◌<◌, All, None, false, length, map, get_or, ap, sym, subst, arith}
 use Rattle.arrow2_array.specs.Items.{boolean_items}
-use Rattle.arrow2_model.specs.Storage.{items_of}
+use Rattle.arrow2_model.specs.Lists.{items_of}
 use Rattle.arrow2_validity.specs.OptionalValidity.{valid_items}
 use Rattle.arrow2_walks.specs.Zipped.{zipped}
 use Rattle.arrow2_compute.proofs.ItemsAtIndices.{stand-there, taken-zipped}

@@ -1,7 +1,6 @@
-use Rattle.std.proofs.Common.{◌≡◌, List, Bool, None, get_or, subst}
-use Rattle.std.specs.Prelude.{IfOk}
+use Rattle.std.proofs.Common.{◌≡◌, List, Bool, None, get_or, subst, IfOk}
 use Rattle.arrow2_array.specs.Items.{boolean_items}
-use Rattle.arrow2_model.specs.Storage.{items_of}
+use Rattle.arrow2_model.specs.Lists.{items_of}
 use Rattle.arrow2_primitive.specs.Primitive.{primitive_items}
 use Rattle.arrow2_compute.specs.Take.{item_at}
 use Rattle.arrow2_compute.proofs.ItemsAtIndices.{stated-each}

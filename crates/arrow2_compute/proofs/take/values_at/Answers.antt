@@ -1,6 +1,6 @@
 use Rattle.std.proofs.Common.{◌∙◌, ◌+◌, take, get_or, ap, sym, subst, arith}
 use Rattle.std.specs.List.{AllZip}
-use Rattle.arrow2_model.specs.Buffers.{buffer_items}
+use Rattle.arrow2_model.specs.Lists.{buffer_items}
 use Rattle.arrow2_compute.specs.Take.{IsItemAt}
 use Rattle.arrow2_numeric.proofs.Casts.{zip-more}
 use Rattle.arrow2_compute.proofs.take.values_at.Goals as goal

@@ -1,5 +1,4 @@
-use Rattle.std.proofs.Common.{◌≡◌, ◌∙◌, ◌+◌, ◌<◌, None, length, map, take, get_or, ap, sym, arith}
-use Rattle.std.specs.Prelude.{is_some}
+use Rattle.std.proofs.Common.{◌≡◌, ◌∙◌, ◌+◌, ◌<◌, None, length, map, take, get_or, ap, sym, arith, is_some}
 use Rattle.std.proofs.lemmas.List.{length-map, get_or-map}
 use Rattle.arrow2_primitive.specs.Primitive.{primitive_items}
 use Rattle.arrow2_walks.specs.Zipped.{zipped}

@@ -1,5 +1,5 @@
 use Rattle.std.proofs.Common.{◌∙◌, List, Bool, length, refl, sym, slice_index, arith, rules}
-use Rattle.arrow2_model.specs.Kernels.{word}
+use Rattle.arrow2_model.specs.Lists.{word}
 use Rattle.arrow2_model.proofs.BitsOfWords.{joined_from}
 use Rattle.arrow2_model.proofs.Kernels.{bit-word}
 use Rattle.arrow2_ffi.proofs.booleans.write_packed.Goals as goal

@@ -1,7 +1,5 @@
-use Rattle.std.proofs.Common.{◌∙◌, ℕ, ◌+◌, List, Bool, false, length, get_or, sym, arith}
-use Rattle.std.proofs.lemmas.List.{ext_get_or, length-set}
-use Rattle.arrow2_model.specs.Bits.{bits}
-use Rattle.arrow2_model.specs.Parts.{part}
+use Rattle.std.proofs.Common.{◌∙◌, ℕ, ◌+◌, List, Bool, false, length, get_or, sym, arith, ext_get_or, length-set}
+use Rattle.arrow2_model.specs.Lists.{bits, part}
 use Rattle.arrow2_model.proofs.Parts.{get_or-part}
 use Rattle.arrow2_model.proofs.Cursors.{length-part_bits}
 use Rattle.arrow2_offset.proofs.ItemWrites.{one_more}

@@ -1,5 +1,5 @@
 use Rattle.std.proofs.Common.{◌≡◌, ℕ, ◌<◌, ◌+◌, length, false, get_or}
-use Rattle.arrow2_model.specs.Bits.{bits}
+use Rattle.arrow2_model.specs.Lists.{bits}
 use Rattle.arrow2_ffi.proofs.booleans.write_unpacked.Given as goal
 
 abbrev pub invariant-loop-i : goal.invariant-loop-i

@@ -1,5 +1,4 @@
-use Rattle.std.proofs.Common.{◌≤◌, ◌+◌, ◌/◌, arith}
-use Rattle.std.proofs.Math.Nat.{le-div_iff_mul-le}
+use Rattle.std.proofs.Common.{◌≤◌, ◌+◌, ◌/◌, arith, le-div_iff_mul-le}
 use Rattle.arrow2_ffi.proofs.buffers.arrow2_values_check.Goals as goal
 
 pub returns-then-offset-length-clause-ok : goal.returns-then-offset-length-clause-ok

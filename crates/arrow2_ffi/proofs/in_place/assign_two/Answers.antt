@@ -1,5 +1,5 @@
 use Rattle.std.proofs.Common.{◌∙◌, ℕ, ◌-◌, ◌/◌, List, [], ◌∷◌, Bool, length, ap, take, arith}
-use Rattle.arrow2_model.specs.Bits.{bits}
+use Rattle.arrow2_model.specs.Lists.{bits}
 use Rattle.arrow2_model.specs.Tables.{each}
 use Rattle.arrow2_model.proofs.Bytes.{part-bits-part}
 use Rattle.arrow2_ffi.proofs.in_place.assign_two.Goals as goal

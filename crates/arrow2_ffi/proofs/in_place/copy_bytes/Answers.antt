@@ -1,5 +1,5 @@
 use Rattle.std.proofs.Common.{◌∙◌, List, ℕ, length, take, ap}
-use Rattle.arrow2_model.specs.Bits.{bits}
+use Rattle.arrow2_model.specs.Lists.{bits}
 use Rattle.arrow2_bits.proofs.WordIterators.{front_items}
 use Rattle.arrow2_ffi.proofs.in_place.copy_bytes.Goals as goal
 

@@ -1,5 +1,5 @@
 use Rattle.std.proofs.Common.{◌∙◌, List, Bool, sym, slice_index, arith, rules}
-use Rattle.arrow2_model.specs.Kernels.{word}
+use Rattle.arrow2_model.specs.Lists.{word}
 use Rattle.arrow2_model.proofs.BitsOfWords.{joined_from}
 use Rattle.arrow2_model.proofs.Kernels.{bit-word}
 use Rattle.arrow2_ffi.proofs.in_place.copy_words.Goals as goal

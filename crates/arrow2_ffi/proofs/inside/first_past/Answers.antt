@@ -1,5 +1,4 @@
-use Rattle.std.proofs.Common.{◌≡◌, ◌-◌, length, map, sym, arith, below_more}
-use Rattle.std.specs.Prelude.{pos, ◌≤ℤ◌, slice_index_or}
+use Rattle.std.proofs.Common.{◌≡◌, ◌-◌, length, map, sym, arith, below_more, pos, ◌≤ℤ◌, slice_index_or}
 use Rattle.std.proofs.lemmas.Int.{ints}
 use Rattle.std.proofs.lemmas.List.{get_or-map, length-map}
 use Rattle.arrow2_offset.specs.Offsets.{last_of}

@@ -1,5 +1,4 @@
-use Rattle.std.proofs.Common.{ℕ, ◌<◌, map}
-use Rattle.std.specs.Prelude.{pos, ◌≤ℤ◌, slice_index_or}
+use Rattle.std.proofs.Common.{ℕ, ◌<◌, map, pos, ◌≤ℤ◌, slice_index_or}
 use Rattle.arrow2_ffi.proofs.inside.first_past.Given as goal
 
 abbrev pub invariant-loop-index : goal.invariant-loop-index

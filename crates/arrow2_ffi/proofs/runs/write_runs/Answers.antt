@@ -1,6 +1,4 @@
-use Rattle.std.proofs.Common.{ℕ, ◌-◌, List, arith, refl, take}
-use Rattle.std.specs.List.{zip}
-use Rattle.std.proofs.lemmas.List.{length-set}
+use Rattle.std.proofs.Common.{ℕ, ◌-◌, List, arith, refl, take, zip, length-set}
 use Rattle.arrow2_walks.proofs.TakenRuns.{none_at_end}
 use Rattle.arrow2_ffi.proofs.RunSteps.{run_last, run_more}
 use Rattle.arrow2_ffi.proofs.runs.write_runs.Goals as goal

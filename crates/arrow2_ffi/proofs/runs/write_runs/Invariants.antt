@@ -1,7 +1,5 @@
-use Rattle.std.proofs.Common.{◌≡◌, ◌≤◌, ◌++◌, length, take}
-use Rattle.std.specs.List.{zip}
-use Rattle.arrow2_model.specs.Bits.{bits}
-use Rattle.arrow2_model.specs.Parts.{part}
+use Rattle.std.proofs.Common.{◌≡◌, ◌≤◌, ◌++◌, length, take, zip}
+use Rattle.arrow2_model.specs.Lists.{bits, part}
 use Rattle.arrow2_walks.specs.Runs.{runs_from}
 use Rattle.arrow2_walks.specs.Cursor.{IsRead}
 use Rattle.arrow2_ffi.proofs.runs.write_runs.Given as goal

@@ -1,6 +1,5 @@
-use Rattle.std.proofs.Common.{◌≡◌, ◌+◌, ◌<◌, ◌≤◌, ◌++◌, ◌^◌, length, map, take}
-use Rattle.std.specs.List.{All}
-use Rattle.arrow2_model.specs.Bits.{unnum}
+use Rattle.std.proofs.Common.{◌≡◌, ◌+◌, ◌<◌, ◌≤◌, ◌++◌, ◌^◌, length, map, take, All}
+use Rattle.arrow2_model.specs.Lists.{unnum}
 use Rattle.arrow2_chunk.specs.Ones.{ones}
 use Rattle.arrow2_ffi.proofs.set_indices.write_ones.Given as goal
 

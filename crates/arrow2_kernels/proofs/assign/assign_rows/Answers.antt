@@ -1,6 +1,5 @@
 use Rattle.std.proofs.Common.{◌≡◌, ◌⊎◌, inl, inr, ℕ, List, Bool, ◌+◌, ◌-◌, ◌*◌, ◌/◌, ◌<◌, ◌≤◌, length, take, ap, sym, subst, refl, ◌∙◌, arith, rules}
-use Rattle.arrow2_model.specs.Bits.{bits}
-use Rattle.arrow2_model.specs.Kernels.{word}
+use Rattle.arrow2_model.specs.Lists.{bits, word}
 use Rattle.arrow2_model.proofs.Numbers.{num-part-lt}
 use Rattle.std.proofs.Math.Nat.{zero-div, zero-mod}
 use Rattle.arrow2_kernels.specs.WordResults.{MayReturnOwn}

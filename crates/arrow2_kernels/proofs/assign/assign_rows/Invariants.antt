@@ -1,6 +1,5 @@
 use Rattle.std.proofs.Common.{◌≡◌, ℕ, ◌+◌, ◌*◌, ◌/◌, ◌%◌, ◌<◌, take, length, slice_index}
-use Rattle.arrow2_model.specs.Bits.{bits}
-use Rattle.arrow2_model.specs.Kernels.{word}
+use Rattle.arrow2_model.specs.Lists.{bits, word}
 use Rattle.arrow2_kernels.specs.WordResults.{MayReturnOwn}
 use Rattle.arrow2_kernels.proofs.AssignSteps.{DoneBy, Kept}
 use Rattle.arrow2_kernels.proofs.assign.assign_rows.Given as goal

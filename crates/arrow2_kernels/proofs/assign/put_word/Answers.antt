@@ -1,5 +1,5 @@
 use Rattle.std.proofs.Common.{inl, inr, ◌∙◌, ℕ, List, ◌+◌, ◌-◌, ap, arith, slice_index_or, false}
-use Rattle.arrow2_model.specs.Bits.{bits}
+use Rattle.arrow2_model.specs.Lists.{bits}
 use Rattle.arrow2_kernels.proofs.AssignSteps.{put_inside, put_outside, word_bit}
 use Rattle.arrow2_kernels.proofs.assign.put_word.Goals as goal
 

@@ -1,5 +1,4 @@
-use Rattle.std.proofs.Common.{◌≡◌, ◌+◌, ◌-◌, ◌∙◌, ap, sym, arith, length, take, drop}
-use Rattle.std.proofs.lemmas.List.{length-take-le, length-drop}
+use Rattle.std.proofs.Common.{◌≡◌, ◌+◌, ◌-◌, ◌∙◌, ap, sym, arith, length, take, drop, length-take-le, length-drop}
 use Rattle.arrow2_kernels.proofs.AssignSteps.{read_bit}
 use Rattle.arrow2_kernels.proofs.assign.word_at.Goals as goal
 

@@ -1,5 +1,5 @@
 use Rattle.std.proofs.Common.{◌∙◌, List, ℕ, get_or, ap, sym}
-use Rattle.arrow2_model.specs.Bits.{bit}
+use Rattle.arrow2_model.specs.Lists.{bit}
 use Rattle.arrow2_kernels.proofs.LaneSteps.{filled_true, filled_false}
 use Rattle.arrow2_kernels.proofs.simd.splat_bit.Goals as goal
 use Rattle.arrow2_kernels.proofs.simd.splat_bit.Goals.{then-value, else-value}

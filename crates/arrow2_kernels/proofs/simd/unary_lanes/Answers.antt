@@ -1,5 +1,5 @@
 use Rattle.std.proofs.Common.{◌∙◌, Bool, get_or}
-use Rattle.arrow2_model.specs.Bits.{bit}
+use Rattle.arrow2_model.specs.Lists.{bit}
 use Rattle.arrow2_kernels.proofs.TableSteps.{unary_output}
 use Rattle.arrow2_kernels.proofs.simd.unary_lanes.Goals as goal
 

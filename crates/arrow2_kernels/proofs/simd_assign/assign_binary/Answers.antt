@@ -1,6 +1,5 @@
-use Rattle.std.proofs.Common.{◌∙◌, ◌*◌, ap, take, length, arith}
-use Rattle.std.proofs.lemmas.List.{take-take}
-use Rattle.arrow2_model.specs.Bits.{bits}
+use Rattle.std.proofs.Common.{◌∙◌, ◌*◌, ap, take, length, arith, take-take}
+use Rattle.arrow2_model.specs.Lists.{bits}
 use Rattle.arrow2_model.proofs.Bits.{length-bits}
 use Rattle.arrow2_kernels.proofs.LaneSteps.{take-each2}
 use Rattle.arrow2_kernels.proofs.simd_assign.assign_binary.Goals as goal

@@ -1,5 +1,5 @@
 use Rattle.std.proofs.Common.{◌∙◌, ap, take, arith}
-use Rattle.arrow2_model.specs.Bits.{bits}
+use Rattle.arrow2_model.specs.Lists.{bits}
 use Rattle.arrow2_model.proofs.Bits.{length-bits}
 use Rattle.arrow2_kernels.proofs.LaneSteps.{take-each1}
 use Rattle.arrow2_kernels.proofs.simd_assign.assign_unary.Goals as goal

@@ -1,5 +1,5 @@
 use Rattle.std.proofs.Common.{◌∙◌, ◌*◌, take, length, arith}
-use Rattle.arrow2_model.specs.Bits.{bits}
+use Rattle.arrow2_model.specs.Lists.{bits}
 use Rattle.arrow2_kernels.proofs.LaneSteps.{same_table}
 use Rattle.arrow2_kernels.proofs.simd_assign.write_by_table.Goals as goal
 

@@ -1,5 +1,5 @@
 use Rattle.std.proofs.Common.{◌∙◌, ℕ, List, ap, take, length, arith, rules}
-use Rattle.arrow2_model.specs.Bits.{bits}
+use Rattle.arrow2_model.specs.Lists.{bits}
 use Rattle.arrow2_kernels.proofs.VectorWrites.{whole_written}
 use Rattle.arrow2_kernels.proofs.LaneSteps.{length-results, first_results}
 use Rattle.arrow2_kernels.proofs.simd_map.map_binary.Goals as goal

@@ -1,5 +1,5 @@
 use Rattle.std.proofs.Common.{◌∙◌, [], ◌∷◌, Bool, cond, ap}
-use Rattle.arrow2_model.specs.Bits.{bit}
+use Rattle.arrow2_model.specs.Lists.{bit}
 use Rattle.arrow2_kernels.proofs.TableSteps.{wider_output}
 use Rattle.arrow2_kernels.proofs.truth_tables.quaternary_outputs.Goals as goal
 

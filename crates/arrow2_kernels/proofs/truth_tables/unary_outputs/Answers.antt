@@ -1,5 +1,5 @@
 use Rattle.std.proofs.Common.{◌∙◌, Bool}
-use Rattle.arrow2_model.specs.Bits.{bit}
+use Rattle.arrow2_model.specs.Lists.{bit}
 use Rattle.arrow2_kernels.proofs.TableSteps.{unary_output}
 use Rattle.arrow2_kernels.proofs.truth_tables.unary_outputs.Goals as goal
 

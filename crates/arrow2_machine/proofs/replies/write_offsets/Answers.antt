@@ -1,7 +1,4 @@
-use Rattle.std.proofs.Common.{◌∙◌, ◌+◌, sym, ap, add-one, ◌∷◌, drop, get_or}
-use Rattle.std.specs.Prelude.{pos, unsigned_abs}
-use Rattle.std.specs.Fmt.{decimal}
-use Rattle.std.proofs.Math.Seq.{drop-cons}
+use Rattle.std.proofs.Common.{◌∙◌, ◌+◌, sym, ap, add-one, ◌∷◌, drop, get_or, pos, unsigned_abs, decimal, drop-cons}
 use Rattle.arrow2_machine.proofs.WordListLemmas.{first_written, next_written}
 use Rattle.arrow2_machine.proofs.replies.write_offsets.Goals as goal
 

@@ -1,6 +1,4 @@
-use Rattle.std.proofs.Common.{◌≡◌, ◌++◌, map, drop}
-use Rattle.std.specs.Prelude.{unsigned_abs}
-use Rattle.std.specs.Fmt.{decimal}
+use Rattle.std.proofs.Common.{◌≡◌, ◌++◌, map, drop, unsigned_abs, decimal}
 use Rattle.arrow2_machine.specs.Replies.{words_text}
 use Rattle.arrow2_machine.proofs.WordListLemmas.{led}
 use Rattle.arrow2_machine.proofs.replies.write_offsets.Given as goal

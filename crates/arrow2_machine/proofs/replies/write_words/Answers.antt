@@ -1,5 +1,5 @@
 use Rattle.std.proofs.Common.{◌∙◌, sym, ap, arith, ◌∷◌, [], length}
-use Rattle.arrow2.specs.Words.{words}
+use Rattle.arrow2.specs.Lists.{words}
 use Rattle.arrow2_machine.proofs.WordLemmas.{next_word, last_word, no_word, listed_next, listed_last, listed_none, listed_end}
 use Rattle.arrow2_machine.proofs.replies.write_words.Goals.{then-rest-gt0+in_ok-write_listed-2, else-rest-gt0+then-first+in_ok-extend_from_slice, else-rest-gt0+else-first}
 use Rattle.arrow2_machine.proofs.replies.write_words.Goals as goal

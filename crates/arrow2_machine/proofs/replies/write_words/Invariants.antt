@@ -1,6 +1,5 @@
-use Rattle.std.proofs.Common.{◌≡◌, ◌++◌, map}
-use Rattle.std.specs.Fmt.{decimal}
-use Rattle.arrow2.specs.Words.{words}
+use Rattle.std.proofs.Common.{◌≡◌, ◌++◌, map, decimal}
+use Rattle.arrow2.specs.Lists.{words}
 use Rattle.arrow2_machine.specs.Replies.{words_text}
 use Rattle.arrow2_machine.proofs.WordLemmas.{pending}
 use Rattle.arrow2_machine.proofs.replies.write_words.Given as goal

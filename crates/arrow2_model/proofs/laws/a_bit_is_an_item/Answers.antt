@@ -1,7 +1,6 @@
-use Rattle.std.proofs.Common.{◌∙◌, ap, arith}
-use Rattle.std.specs.Prelude.{Some}
+use Rattle.std.proofs.Common.{◌∙◌, ap, arith, Some}
 use Rattle.std.proofs.lemmas.Option.{slice_get-get_or}
-use Rattle.arrow2_model.specs.Bits.{bit, bits, unnum}
+use Rattle.arrow2_model.specs.Lists.{bit, bits, unnum}
 use Rattle.arrow2_model.proofs.Bits.{get_or-unnum, get_or-bits_at, length-unnum, length-bits}
 use Rattle.arrow2_model.proofs.laws.a_bit_is_an_item.Goals as goal
 

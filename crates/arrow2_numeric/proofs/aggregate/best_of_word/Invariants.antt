@@ -1,7 +1,5 @@
-use Rattle.std.proofs.Common.{◌≡◌}
-use Rattle.std.specs.List.{flat_map}
-use Rattle.arrow2_model.specs.Bits.{unnum}
-use Rattle.arrow2_model.specs.Parts.{part}
+use Rattle.std.proofs.Common.{◌≡◌, flat_map}
+use Rattle.arrow2_model.specs.Lists.{unnum, part}
 use Rattle.arrow2_walks.specs.Selections.{selection}
 use Rattle.arrow2_numeric.specs.Aggregates.{best_from}
 use Rattle.arrow2_numeric.proofs.aggregate.best_of_word.Given as goal

@@ -1,5 +1,5 @@
 use Rattle.std.proofs.Common.{◌∙◌, ap, sym}
-use Rattle.arrow2_model.specs.Bits.{unnum}
+use Rattle.arrow2_model.specs.Lists.{unnum}
 use Rattle.arrow2_numeric.specs.MaskedBlocks.{selected_left}
 use Rattle.arrow2_walks.specs.Selections.{selection}
 use Rattle.arrow2_numeric.specs.Aggregates.{best_from}

@@ -1,5 +1,4 @@
-use Rattle.std.proofs.Common.{◌≡◌, ◌-◌, ◌*◌, ◌^◌, ◌≤◌, ◌≤ℤ◌, ◌+ℤ◌, drop, pos}
-use Rattle.std.specs.Prelude.{◌*ℤ◌}
+use Rattle.std.proofs.Common.{◌≡◌, ◌-◌, ◌*◌, ◌^◌, ◌≤◌, ◌≤ℤ◌, ◌+ℤ◌, drop, pos, ◌*ℤ◌}
 use Rattle.arrow2_numeric.specs.Aggregates.{sum_of}
 use Rattle.arrow2_numeric.proofs.aggregate.sum_of_block.Given as goal
 

@@ -1,8 +1,6 @@
-use Rattle.std.proofs.Common.{◌∙◌, ap, length, arith}
+use Rattle.std.proofs.Common.{◌∙◌, ap, length, arith, length-append}
 use Rattle.std.proofs.lemmas.Int.{ints, to_z-of_z}
-use Rattle.std.proofs.lemmas.List.{length-append}
-use Rattle.arrow2_model.specs.Bits.{unnum}
-use Rattle.arrow2_model.specs.Storage.{items_of}
+use Rattle.arrow2_model.specs.Lists.{unnum, items_of}
 use Rattle.arrow2_numeric.specs.MaskedBlocks.{selected_left}
 use Rattle.arrow2_walks.specs.Selections.{selection}
 use Rattle.arrow2_walks.proofs.Selections.{length-selected}

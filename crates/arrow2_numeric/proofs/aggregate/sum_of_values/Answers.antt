@@ -1,6 +1,5 @@
-use Rattle.std.proofs.Common.{◌≡◌, ◌∙◌, ◌+◌, ◌-◌, ◌+ℤ◌, ap, sym, take, drop, length, arith}
+use Rattle.std.proofs.Common.{◌≡◌, ◌∙◌, ◌+◌, ◌-◌, ◌+ℤ◌, ap, sym, take, drop, length, arith, drop-drop, length-drop, length-take-le, take-append-drop}
 use Rattle.std.proofs.lemmas.Int.{ints}
-use Rattle.std.proofs.lemmas.List.{drop-drop, length-drop, length-take-le, take-append-drop}
 use Rattle.arrow2_numeric.specs.Aggregates.{sum_of}
 use Rattle.arrow2_numeric.proofs.Sums.{sum-append, range-both, range-as}
 use Rattle.arrow2_numeric.proofs.aggregate.sum_of_values.Goals as goal

@@ -1,9 +1,7 @@
-use Rattle.std.proofs.Common.{◌≡◌, ◌∙◌, ◌<◌, ap, length, rules, arith}
-use Rattle.std.specs.List.{flat_map}
+use Rattle.std.proofs.Common.{◌≡◌, ◌∙◌, ◌<◌, ap, length, rules, arith, flat_map}
 use Rattle.std.proofs.Math.IntN.{+ℤ_idl}
 use Rattle.std.proofs.lemmas.Int.{ints, to_z-of_z}
-use Rattle.arrow2_model.specs.Bits.{unnum}
-use Rattle.arrow2_model.specs.Parts.{part}
+use Rattle.arrow2_model.specs.Lists.{unnum, part}
 use Rattle.arrow2_chunk.specs.Ones.{ones}
 use Rattle.arrow2_walks.specs.Selections.{selection}
 use Rattle.arrow2_walks.proofs.Selections.{length-selected}

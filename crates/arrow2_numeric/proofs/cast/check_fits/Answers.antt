@@ -1,6 +1,4 @@
-use Rattle.std.proofs.Common.{◌<◌, ℕ, List, Option, None, length, get_or, subst, sym, arith}
-use Rattle.std.specs.Prelude.{All}
-use Rattle.std.proofs.lemmas.List.{take_all}
+use Rattle.std.proofs.Common.{◌<◌, ℕ, List, Option, None, length, get_or, subst, sym, arith, All, take_all}
 use Rattle.std.proofs.lemmas.List.Elements.{All-more}
 use Rattle.arrow2_types.specs.Failures.{IsInvalidArgumentOrOutOfMemory}
 use Rattle.arrow2_primitive.specs.Primitive.{primitive_items}

@@ -1,7 +1,6 @@
-use Rattle.std.proofs.Common.{◌+◌, ◌<◌, ◌^◌, List, Option, None, length, take, get_or, subst, sym, ◌∙◌, arith}
+use Rattle.std.proofs.Common.{◌+◌, ◌<◌, ◌^◌, List, Option, None, length, take, get_or, subst, sym, ◌∙◌, arith, length-take, take_all}
 use Rattle.std.specs.List.{AllZip}
 use Rattle.std.proofs.lemmas.Grind.{common_steps}
-use Rattle.std.proofs.lemmas.List.{length-take, take_all}
 use Rattle.arrow2_primitive.specs.Primitive.{primitive_items}
 use Rattle.arrow2_numeric.specs.Casts.{IsCast}
 use Rattle.arrow2_numeric.proofs.Casts.{length-zip, zip-more, if-ok}

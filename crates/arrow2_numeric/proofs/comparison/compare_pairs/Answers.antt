@@ -1,10 +1,8 @@
-use Rattle.std.proofs.Common.{◌≡◌, ◌∷◌, [], ap, sym, length, ◌∙◌, arith}
-use Rattle.std.specs.Prelude.{◌&&◌}
+use Rattle.std.proofs.Common.{◌≡◌, ◌∷◌, [], ap, sym, length, ◌∙◌, arith, ◌&&◌}
 use Rattle.std.specs.Simd.Lanes.{zip2}
 use Rattle.std.proofs.lemmas.Grind.{common_steps}
 use Rattle.arrow2_array.specs.Items.{boolean_items}
-use Rattle.arrow2_model.specs.Buffers.{buffer_items}
-use Rattle.arrow2_model.specs.Storage.{items_of}
+use Rattle.arrow2_model.specs.Lists.{buffer_items, items_of}
 use Rattle.arrow2_model.specs.Tables.{each}
 use Rattle.arrow2_validity.specs.OptionalValidity.{valid_items}
 use Rattle.arrow2_walks.specs.Zipped.{zipped}

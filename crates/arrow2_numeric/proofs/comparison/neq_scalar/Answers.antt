@@ -1,5 +1,4 @@
-use Rattle.std.proofs.Common.{rules}
-use Rattle.std.specs.Prelude.{not}
+use Rattle.std.proofs.Common.{rules, not}
 use Rattle.arrow2_numeric.proofs.comparison.neq_scalar.Goals as goal
 
 pub returns-clause-items : goal.returns-clause-items

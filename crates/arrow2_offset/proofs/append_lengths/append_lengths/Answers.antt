@@ -1,5 +1,4 @@
-use Rattle.std.proofs.Common.{◌≤◌, ◌-◌, length, map, refl, arith, rules}
-use Rattle.std.specs.Prelude.{vec_capacity}
+use Rattle.std.proofs.Common.{◌≤◌, ◌-◌, length, map, refl, arith, rules, vec_capacity}
 use Rattle.arrow2_offset.specs.Offsets.{lengths_of}
 use Rattle.arrow2_offset.proofs.Growing.{length_slots}
 use Rattle.arrow2_offset.proofs.append_lengths.append_lengths.Goals as goal

@@ -1,5 +1,4 @@
-use Rattle.std.proofs.Common.{◌≡◌, ◌∙◌, ◌++◌, ◌∷◌, [], ap, sym, subst, arith, rules, length, map, refl}
-use Rattle.std.specs.Prelude.{pos}
+use Rattle.std.proofs.Common.{◌≡◌, ◌∙◌, ◌++◌, ◌∷◌, [], ap, sym, subst, arith, rules, length, map, refl, pos}
 use Rattle.std.proofs.lemmas.List.{length-map, length-append, append-nil, take_all}
 use Rattle.std.proofs.iter.Next.{Yields-more}
 use Rattle.std.proofs.iter.runs.Made.{run_of_exit}

@@ -1,5 +1,4 @@
-use Rattle.std.proofs.Common.{◌≡◌, ◌+◌, ◌*◌, ◌^◌, ◌<◌, ◌≤◌, length, map, sum, take}
-use Rattle.std.specs.Prelude.{vec_capacity}
+use Rattle.std.proofs.Common.{◌≡◌, ◌+◌, ◌*◌, ◌^◌, ◌<◌, ◌≤◌, length, map, sum, take, vec_capacity}
 use Rattle.arrow2_offset.specs.Offsets.{last_of}
 use Rattle.arrow2_offset.proofs.Appending.{AreLengthened}
 use Rattle.arrow2_offset.proofs.append_lengths.append_sums.Given as goal

@@ -1,5 +1,4 @@
-use Rattle.std.proofs.Common.{◌-◌, map, arith}
-use Rattle.std.specs.Prelude.{pos}
+use Rattle.std.proofs.Common.{◌-◌, map, arith, pos}
 use Rattle.std.proofs.lemmas.List.{get_or-map}
 use Rattle.arrow2_offset.proofs.Order.{le_stated, rises_more}
 use Rattle.arrow2_offset.proofs.check.is_rising.Goals as goal

@@ -1,5 +1,4 @@
-use Rattle.std.proofs.Common.{◌≡◌, ℕ, ◌+◌, ◌<◌, ◌≤◌, ◌↔◌, length, map, max, true}
-use Rattle.std.specs.Prelude.{pos, ◌≤ℤ◌, slice_index_or}
+use Rattle.std.proofs.Common.{◌≡◌, ℕ, ◌+◌, ◌<◌, ◌≤◌, ◌↔◌, length, map, max, true, pos, ◌≤ℤ◌, slice_index_or}
 use Rattle.arrow2_offset.proofs.check.is_rising.Given as goal
 
 abbrev pub invariant-loop-i : goal.invariant-loop-i

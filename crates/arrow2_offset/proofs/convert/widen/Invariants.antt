@@ -1,5 +1,4 @@
-use Rattle.std.proofs.Common.{◌≡◌, length, vec_len, take}
-use Rattle.std.specs.Prelude.{vec_capacity}
+use Rattle.std.proofs.Common.{◌≡◌, length, vec_len, take, vec_capacity}
 use Rattle.arrow2_offset.proofs.convert.widen.Given as goal
 
 abbrev pub invariant-loop-i : goal.invariant-loop-i

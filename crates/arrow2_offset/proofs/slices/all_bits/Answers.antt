@@ -1,5 +1,4 @@
-use Rattle.std.proofs.Common.{ℕ, List, get_or, arith}
-use Rattle.std.proofs.Math.Nat.{mul-le-mul_left}
+use Rattle.std.proofs.Common.{ℕ, List, get_or, arith, mul-le-mul_left}
 use Rattle.std.proofs.lemmas.Nat.{le_or_l, le_or_r}
 use Rattle.arrow2_offset.proofs.SliceSteps.{next_sum}
 use Rattle.arrow2_offset.proofs.slices.all_bits.Goals as goal

@@ -1,9 +1,8 @@
 use Rattle.std.proofs.Common.{ℕ, List, map, get_or, arith}
-use Rattle.std.proofs.lemmas.List.{length-set}
+use Rattle.std.proofs.lemmas.List.{length-set, length-map}
 use Rattle.arrow2_offset.specs.Offsets.{lengths_of}
 use Rattle.arrow2_offset.proofs.ItemWrites.{one_more}
 use Rattle.arrow2_offset.proofs.SliceSteps.{all_lengths, between}
-use Rattle.std.proofs.lemmas.List.{length-map}
 use Rattle.arrow2_offset.proofs.slices.write_lengths.Goals as goal
 
 pub distance_to-requires : goal.distance_to-requires

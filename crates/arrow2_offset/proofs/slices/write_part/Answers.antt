@@ -1,8 +1,7 @@
-use Rattle.std.proofs.Common.{◌≡◌, ◌∙◌, ℕ, ◌-◌, List, map, length, ap, arith}
-use Rattle.std.specs.Prelude.{ℤ, pos}
+use Rattle.std.proofs.Common.{◌≡◌, ◌∙◌, ℕ, ◌-◌, List, map, length, ap, arith, ℤ, pos}
 use Rattle.std.proofs.lemmas.List.{length-map, length-set}
 use Rattle.arrow2_offset.specs.Offsets.{lengths_of, offset_at}
-use Rattle.arrow2_model.specs.Parts.{part}
+use Rattle.arrow2_model.specs.Lists.{part}
 use Rattle.arrow2_offset.proofs.OffsetLists.{length-lengths_of}
 use Rattle.arrow2_model.proofs.Parts.{length-part}
 use Rattle.arrow2_offset.proofs.SliceSteps.{all_offsets, from_first, one_more_value, within_last}

@@ -1,7 +1,6 @@
-use Rattle.std.proofs.Common.{◌≡◌, ℕ, ◌<◌, ◌-◌, length, map, get_or}
-use Rattle.std.specs.Prelude.{pos}
+use Rattle.std.proofs.Common.{◌≡◌, ℕ, ◌<◌, ◌-◌, length, map, get_or, pos}
 use Rattle.arrow2_offset.specs.Offsets.{lengths_of, offset_at}
-use Rattle.arrow2_model.specs.Parts.{part}
+use Rattle.arrow2_model.specs.Lists.{part}
 use Rattle.arrow2_offset.proofs.slices.write_part.Given as goal
 
 abbrev pub invariant-loop-i : goal.invariant-loop-i

@@ -1,5 +1,4 @@
-use Rattle.std.proofs.Common.{◌≡◌, ◌∙◌, ℕ, ◌+◌, ◌<◌, ◌^◌, List, map, ap, arith}
-use Rattle.std.specs.Prelude.{pos}
+use Rattle.std.proofs.Common.{◌≡◌, ◌∙◌, ℕ, ◌+◌, ◌<◌, ◌^◌, List, map, ap, arith, pos}
 use Rattle.std.proofs.lemmas.List.{length-map, length-set}
 use Rattle.arrow2_offset.specs.Offsets.{offset_at}
 use Rattle.arrow2_offset.proofs.SliceSteps.{all_offsets, next_sum, one_more_value, sum_up_to}

@@ -1,5 +1,4 @@
-use Rattle.std.proofs.Common.{◌≡◌, ℕ, ◌<◌, ◌+◌, length, map, get_or}
-use Rattle.std.specs.Prelude.{pos}
+use Rattle.std.proofs.Common.{◌≡◌, ℕ, ◌<◌, ◌+◌, length, map, get_or, pos}
 use Rattle.arrow2_offset.specs.Offsets.{offset_at}
 use Rattle.arrow2_offset.proofs.slices.write_sums.Given as goal
 

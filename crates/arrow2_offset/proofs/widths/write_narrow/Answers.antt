@@ -1,8 +1,6 @@
-use Rattle.std.proofs.Common.{◌≡◌, ◌∙◌, ℕ, List, get_or, ap, arith, to_z, of_z, w32, w64}
-use Rattle.std.specs.Prelude.{ℤ, pos, FitsSigned}
+use Rattle.std.proofs.Common.{◌≡◌, ◌∙◌, ℕ, List, get_or, ap, arith, to_z, of_z, w32, w64, ℤ, pos, FitsSigned, ext_get_or, length-set}
 use Rattle.std.specs.Int as integers
 use Rattle.std.proofs.lemmas.Int.{to_z-of_z}
-use Rattle.std.proofs.lemmas.List.{ext_get_or, length-set}
 use Rattle.arrow2_model.proofs.SignedNumbers.{below_fits}
 use Rattle.arrow2_offset.proofs.Growing.{offset_within}
 use Rattle.arrow2_offset.proofs.ItemWrites.{one_more}

@@ -1,6 +1,4 @@
-use Rattle.std.proofs.Common.{arith}
-use Rattle.std.specs.Prelude.{pos}
-use Rattle.std.proofs.lemmas.List.{ext_get_or}
+use Rattle.std.proofs.Common.{arith, pos, ext_get_or}
 use Rattle.arrow2_offset.proofs.widths.write_wide.Goals as goal
 
 pub returns : goal.returns

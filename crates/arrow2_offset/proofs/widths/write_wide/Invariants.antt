@@ -1,5 +1,4 @@
-use Rattle.std.proofs.Common.{◌≡◌, ℕ, ◌<◌, length, get_or}
-use Rattle.std.specs.Prelude.{pos}
+use Rattle.std.proofs.Common.{◌≡◌, ℕ, ◌<◌, length, get_or, pos}
 use Rattle.arrow2_offset.proofs.widths.write_wide.Given as goal
 
 abbrev pub invariant-loop-i : goal.invariant-loop-i

@@ -2,7 +2,7 @@ use Rattle.std.proofs.Common.{◌≡◌, ◌∙◌, ◌*◌, ◌/◌, ◌%◌, �
 use Rattle.std.proofs.lemmas.Bool.{cases_lt, cases_eq}
 use Rattle.std.proofs.lemmas.Grind.{get_or_default_zero}
 use Rattle.std.proofs.lemmas.List.{length-set, get_or-set_same, get_or-set_other, get_or_past}
-use Rattle.arrow2_model.specs.Bits.{bit, bits}
+use Rattle.arrow2_model.specs.Lists.{bit, bits}
 use Rattle.arrow2_model.proofs.Bits.{length-bits, get_or-bits_at}
 use Rattle.arrow2_packed_bits.proofs.Buffer.{above, above_kept, above_set}
 use Rattle.arrow2_packed_bits.proofs.packed_bits.set_above.Goals as goal

@@ -1,8 +1,7 @@
-use Rattle.std.proofs.Common.{◌≡◌, ◌∙◌, ◌+◌, ◌++◌, List, Bool, refl, subst, sym, ap, length, take, arith}
+use Rattle.std.proofs.Common.{◌≡◌, ◌∙◌, ◌+◌, ◌++◌, List, Bool, refl, subst, sym, ap, length, take, arith, length-append}
 use Rattle.std.specs.Iterator.{Yields}
-use Rattle.std.proofs.lemmas.List.{length-append}
 use Rattle.std.proofs.iter.runs.Made.{run_of_exit}
-use Rattle.arrow2_model.specs.Bits.{bits}
+use Rattle.arrow2_model.specs.Lists.{bits}
 use Rattle.arrow2_model.proofs.Bits.{bits-nil, length-bits}
 use Rattle.arrow2_packed_bits.proofs.PackedWords.{Yields-append, block_following, front_following, too_many}
 use Rattle.arrow2_packed_bits.proofs.packing.collect_bits.Goals as goal

@@ -1,6 +1,6 @@
 use Rattle.std.proofs.Common.{◌≡◌, ◌*◌, ◌%◌, ◌^◌, ◌<◌, length}
 use Rattle.std.specs.Iterator.{Yields, IsFinite, size}
-use Rattle.arrow2_model.specs.Bits.{bits}
+use Rattle.arrow2_model.specs.Lists.{bits}
 use Rattle.arrow2_packed_bits.proofs.packing.collect_bits.Given as goal
 
 abbrev pub invariant-words : goal.invariant-words

@@ -1,5 +1,5 @@
 use Rattle.std.proofs.Common.{◌≡◌, ◌∙◌, ◌*◌, ◌≤◌, ◌++◌, List, Bool, ap, drop, take, length, get_or, [], ◌/◌, refl, sym, subst, arith}
-use Rattle.arrow2_model.specs.Bits.{bits}
+use Rattle.arrow2_model.specs.Lists.{bits}
 use Rattle.arrow2_model.proofs.Bits.{bits-nil}
 use Rattle.arrow2_packed_bits.proofs.PackedWords.{block_at, packed_on, packed_all}
 use Rattle.arrow2_packed_bits.proofs.packing.pack_bits.Goals as goal

@@ -1,10 +1,9 @@
-use Rattle.std.proofs.Common.{◌∙◌, ap, map, not, length, arith}
+use Rattle.std.proofs.Common.{◌∙◌, ap, map, not, length, arith, eqb}
 use Rattle.std.specs.Int as width
-use Rattle.std.proofs.Math.Dec.{eqb}
 use Rattle.std.proofs.lemmas.Simd.{bitmask_splat}
 use Rattle.std.proofs.lemmas.List.{length-map}
 use Rattle.std.specs.Int.{from_bool}
-use Rattle.arrow2_model.specs.Bits.{num}
+use Rattle.arrow2_model.specs.Lists.{num}
 use Rattle.arrow2_packed_bits.proofs.PackedWords.{flags}
 use Rattle.arrow2_packed_bits.proofs.packing.word_of.Goals as goal
 

@@ -1,5 +1,4 @@
-use Rattle.std.proofs.Common.{◌∙◌, ◌+◌, map, take, ap, arith}
-use Rattle.std.specs.Prelude.{is_some}
+use Rattle.std.proofs.Common.{◌∙◌, ◌+◌, map, take, ap, arith, is_some}
 use Rattle.arrow2_walks.specs.Zipped.{zipped}
 use Rattle.arrow2_primitive.proofs.Growing.{values-more}
 use Rattle.arrow2_primitive.proofs.array.values_of.Goals as goal

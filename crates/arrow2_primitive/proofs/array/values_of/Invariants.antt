@@ -1,5 +1,4 @@
-use Rattle.std.proofs.Common.{◌≡◌, ◌≤◌, length, map, take}
-use Rattle.std.specs.Prelude.{is_some, vec_len, vec_capacity}
+use Rattle.std.proofs.Common.{◌≡◌, ◌≤◌, length, map, take, is_some, vec_len, vec_capacity}
 use Rattle.arrow2_walks.specs.Zipped.{zipped}
 use Rattle.arrow2_primitive.proofs.array.values_of.Given as goal
 

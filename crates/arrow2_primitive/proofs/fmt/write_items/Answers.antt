@@ -1,5 +1,4 @@
-use Rattle.std.proofs.Common.{◌<◌, true, arith, get_or, length, refl}
-use Rattle.std.specs.Prelude.{Ok, None}
+use Rattle.std.proofs.Common.{◌<◌, true, arith, get_or, length, refl, Ok, None}
 use Rattle.std.specs.Fmt.{debug_list}
 use Rattle.arrow2_validity.specs.ItemTexts.{item_output}
 use Rattle.arrow2_validity.proofs.ArrayTexts.{all-shown, displays-from, item-shown, none-shown, shows-from}

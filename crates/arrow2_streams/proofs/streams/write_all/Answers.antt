@@ -1,8 +1,6 @@
-use Rattle.std.proofs.Common.{ℕ, List, ◌++◌, ◌+◌, ◌∙◌, sym, ap, arith, take, drop, append_assoc, rules}
-use Rattle.std.specs.Prelude.{Option, Some, None}
+use Rattle.std.proofs.Common.{ℕ, List, ◌++◌, ◌+◌, ◌∙◌, sym, ap, arith, take, drop, append_assoc, rules, Option, Some, None, take-add}
 use Rattle.std.specs.Io.KnownBytes.{Appends}
 use Rattle.std.proofs.lemmas.List.{take_rest}
-use Rattle.std.proofs.Math.Seq.{take-add}
 use Rattle.arrow2_streams.proofs.streams.write_all.Goals as goal
 
 -- two parts of a text that follow one another, written one after the other

@@ -1,9 +1,8 @@
 use Rattle.std.proofs.Common.{◌∙◌, ℕ, List, [], ◌∷◌, Bool, length, slice_index, ap, arith, rules}
 use Rattle.std.proofs.lemmas.Result.{IfOk-weaker}
-use Rattle.arrow2_model.specs.Bits.{unnum}
-use Rattle.arrow2_model.specs.Storage.{items_of}
+use Rattle.arrow2_model.specs.Lists.{unnum, items_of, word}
 use Rattle.arrow2_model.proofs.RowKernels.{ternary_is}
-use Rattle.arrow2_model.specs.Kernels.{word, bits_of_words}
+use Rattle.arrow2_model.specs.Kernels.{bits_of_words}
 use Rattle.arrow2_kernels.specs.WordResults.{AreJoinedResults}
 use Rattle.arrow2_kernels.proofs.WordResults.{row_result}
 use Rattle.arrow2_tables.proofs.bitmap_ops.ternary.Given as given

@@ -1,5 +1,4 @@
-use Rattle.std.proofs.Common.{[], take}
-use Rattle.std.specs.Prelude.{Some, codes}
+use Rattle.std.proofs.Common.{[], take, Some, codes}
 use Rattle.std.specs.Fmt.{◌++?◌, IsPlainFormatter, debug_items}
 use Rattle.arrow2_validity.specs.ItemTexts.{item_output}
 use Rattle.arrow2_validity.proofs.ArrayTexts.{Shows}

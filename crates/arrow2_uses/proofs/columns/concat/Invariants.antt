@@ -1,5 +1,4 @@
-use Rattle.std.proofs.Common.{◌≡◌, take}
-use Rattle.std.specs.List.{flat_map}
+use Rattle.std.proofs.Common.{◌≡◌, take, flat_map}
 use Rattle.arrow2.specs.Primitive.{primitive_items}
 use Rattle.arrow2_uses.proofs.columns.concat.Given as goal
 

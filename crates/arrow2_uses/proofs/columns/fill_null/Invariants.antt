@@ -1,5 +1,4 @@
-use Rattle.std.proofs.Common.{◌≡◌, ◌++◌, Some, map}
-use Rattle.std.specs.Prelude.{unwrap_or}
+use Rattle.std.proofs.Common.{◌≡◌, ◌++◌, Some, map, unwrap_or}
 use Rattle.arrow2.specs.Primitive.{primitive_items}
 use Rattle.arrow2_uses.proofs.columns.fill_null.Given as goal
 

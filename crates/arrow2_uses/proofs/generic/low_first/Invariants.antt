@@ -1,5 +1,4 @@
-use Rattle.std.proofs.Common.{◌≡◌, take}
-use Rattle.std.specs.List.{flat_map}
+use Rattle.std.proofs.Common.{◌≡◌, take, flat_map}
 use Rattle.arrow2_uses.proofs.generic.low_first.Given as goal
 
 abbrev pub invariant-loop-value : goal.invariant-loop-value

@@ -1,5 +1,5 @@
 use Rattle.std.proofs.Common.{◌≡◌, ◌++◌, map, not}
-use Rattle.arrow2.specs.Storage.{items_of}
+use Rattle.arrow2.specs.Lists.{items_of}
 use Rattle.arrow2_uses.proofs.loops.negation.Given as goal
 
 abbrev pub invariant-loop-item : goal.invariant-loop-item

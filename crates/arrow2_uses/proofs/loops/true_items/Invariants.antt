@@ -1,6 +1,5 @@
 use Rattle.std.proofs.Common.{◌≡◌, ◌+◌, length}
-use Rattle.arrow2.specs.Parts.{falses}
-use Rattle.arrow2.specs.Storage.{items_of}
+use Rattle.arrow2.specs.Lists.{falses, items_of}
 use Rattle.arrow2_uses.proofs.loops.true_items.Given as goal
 
 abbrev pub invariant-loop-word : goal.invariant-loop-word

@@ -1,5 +1,5 @@
 use Rattle.std.proofs.Common.{◌∙◌, ℕ, ◌+◌, ◌≤◌, ◌++◌, length, ap}
-use Rattle.arrow2.specs.Parts.{part}
+use Rattle.arrow2.specs.Lists.{part}
 use Rattle.arrow2.proofs.Runs.{left-all, left-done, part-between}
 use Rattle.arrow2_uses.proofs.runs.valid_values.Goals as goal
 

@@ -1,8 +1,6 @@
-use Rattle.std.proofs.Common.{◌≡◌, ◌+◌, ◌≤◌, ◌++◌, All, length}
-use Rattle.std.specs.List.{flat_map}
-use Rattle.arrow2.specs.Parts.{part}
+use Rattle.std.proofs.Common.{◌≡◌, ◌+◌, ◌≤◌, ◌++◌, All, length, flat_map}
+use Rattle.arrow2.specs.Lists.{part, items_of}
 use Rattle.arrow2.specs.Runs.{runs}
-use Rattle.arrow2.specs.Storage.{items_of}
 use Rattle.arrow2_uses.proofs.runs.valid_values.Given as goal
 
 abbrev pub invariant-loop-start : goal.invariant-loop-start

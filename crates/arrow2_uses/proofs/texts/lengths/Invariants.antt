@@ -1,5 +1,4 @@
-use Rattle.std.proofs.Common.{◌≡◌, ◌++◌, length, map}
-use Rattle.std.specs.Prelude.{option_map}
+use Rattle.std.proofs.Common.{◌≡◌, ◌++◌, length, map, option_map}
 use Rattle.arrow2.specs.Binary.{binary_items}
 use Rattle.arrow2_uses.proofs.texts.lengths.Given as goal
 

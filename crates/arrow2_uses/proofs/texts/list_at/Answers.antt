@@ -1,8 +1,7 @@
 use Rattle.std.proofs.Common.{◌≡◌, ◌∙◌, ◌-◌, get_or, ap, sym, arith, rules}
 use Rattle.arrow2.specs.Binary.{binary_items}
-use Rattle.arrow2.specs.Buffers.{buffer_items}
+use Rattle.arrow2.specs.Lists.{buffer_items, part}
 use Rattle.arrow2.specs.Offsets.{start_of, lengths_of}
-use Rattle.arrow2.specs.Parts.{part}
 use Rattle.arrow2.proofs.NestedLists.{at-cut}
 use Rattle.arrow2_uses.proofs.texts.list_at.Goals as goal
 

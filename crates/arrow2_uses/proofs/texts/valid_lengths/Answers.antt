@@ -1,7 +1,6 @@
 use Rattle.std.proofs.Common.{◌≡◌, ◌∙◌, length, ap, sym}
-use Rattle.arrow2.specs.Buffers.{buffer_items}
+use Rattle.arrow2.specs.Lists.{buffer_items, items_of}
 use Rattle.arrow2.specs.Offsets.{lengths_of}
-use Rattle.arrow2.specs.Storage.{items_of}
 use Rattle.arrow2.specs.Zipped.{zipped}
 use Rattle.arrow2.proofs.Zips.{collected_slots}
 use Rattle.arrow2_uses.proofs.texts.valid_lengths.Goals as goal

@@ -1,5 +1,4 @@
-use Rattle.std.proofs.Common.{◌<◌, ◌≤◌, length, map, drop, [], sym, refl, arith}
-use Rattle.std.specs.Prelude.{IsUtf8}
+use Rattle.std.proofs.Common.{◌<◌, ◌≤◌, length, map, drop, [], sym, refl, arith, IsUtf8}
 use Rattle.std.proofs.lemmas.List.{take_all, length-map}
 use Rattle.std.proofs.lemmas.List.Elements.{All-more, All-same}
 use Rattle.arrow2_offset.specs.Offsets.{start_of, lengths_of}

@@ -1,5 +1,4 @@
-use Rattle.std.proofs.Common.{map, take, All}
-use Rattle.std.specs.Prelude.{IsUtf8}
+use Rattle.std.proofs.Common.{map, take, All, IsUtf8}
 use Rattle.arrow2_utf8.specs.Texts.{slot_values}
 use Rattle.arrow2_utf8.proofs.specification.first_broken_slot.Given as goal
 

@@ -1,5 +1,5 @@
 use Rattle.std.proofs.Common.{drop, [], arith}
-use Rattle.arrow2_model.specs.Buffers.{buffer_items}
+use Rattle.arrow2_model.specs.Lists.{buffer_items}
 use Rattle.arrow2_offset.specs.Offsets.{start_of, lengths_of}
 use Rattle.arrow2_offset.proofs.NestedLists.{length-cut}
 use Rattle.arrow2_utf8.proofs.specification.text_at.Goals as goal

@@ -1,5 +1,5 @@
 use Rattle.std.proofs.Common.{arith}
-use Rattle.arrow2_model.specs.Bits.{bits}
+use Rattle.arrow2_model.specs.Lists.{bits}
 use Rattle.arrow2_walks.proofs.CursorSteps.{passed_bits, found_bit, read_following}
 use Rattle.arrow2_walks.proofs.cursor.find_bit.Goals as goal
 

@@ -1,5 +1,5 @@
 use Rattle.std.proofs.Common.{None, get_or, length, ap, ◌∙◌, arith}
-use Rattle.arrow2_model.specs.Storage.{items_of}
+use Rattle.arrow2_model.specs.Lists.{items_of}
 use Rattle.arrow2_validity.specs.OptionalValidity.{valid_items}
 use Rattle.arrow2_walks.proofs.Zipped.{length-zipped}
 use Rattle.arrow2_array.specs.Items.{boolean_items}

@@ -1,5 +1,5 @@
 use Rattle.std.proofs.Common.{length, sym, ◌∙◌}
-use Rattle.arrow2_model.specs.Storage.{items_of}
+use Rattle.arrow2_model.specs.Lists.{items_of}
 use Rattle.arrow2_array.proofs.Items.{length-bitmap}
 use Rattle.arrow2_array.proofs.boolean.BooleanArray.into_inner.Goals as goal
 

@@ -1,4 +1,4 @@
-use Rattle.arrow2_model.specs.Storage.{items_of}
+use Rattle.arrow2_model.specs.Lists.{items_of}
 use Rattle.arrow2_array.proofs.Items.{items-by}
 use Rattle.arrow2_array.proofs.boolean.BooleanArray.new.Goals as goal
 

@@ -1,5 +1,5 @@
 use Rattle.std.proofs.Common.{length, ap, sym, ◌∙◌}
-use Rattle.arrow2_model.specs.Storage.{items_of}
+use Rattle.arrow2_model.specs.Lists.{items_of}
 use Rattle.arrow2_walks.specs.Zipped.{zipped}
 use Rattle.arrow2_array.specs.Items.{boolean_items}
 use Rattle.arrow2_validity.proofs.ValidItems.{left-out}

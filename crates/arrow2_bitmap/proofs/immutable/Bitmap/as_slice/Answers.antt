@@ -1,7 +1,5 @@
 use Rattle.std.proofs.Common.{◌∙◌, ap, length, ◌+◌, ◌-◌, ◌/◌, ◌%◌, arith}
-use Rattle.arrow2_model.specs.Bits.{bits}
-use Rattle.arrow2_model.specs.Parts.{part}
-use Rattle.arrow2_model.specs.Storage.{items_of}
+use Rattle.arrow2_model.specs.Lists.{bits, part, items_of}
 use Rattle.arrow2_model.proofs.Bytes.{part-bits-part}
 use Rattle.arrow2_bitmap.proofs.immutable.Bitmap.as_slice.Goals as goal
 

@@ -1,4 +1,4 @@
-use Rattle.arrow2_model.specs.Storage.{items_of}
+use Rattle.arrow2_model.specs.Lists.{items_of}
 use Rattle.arrow2_bitmap.proofs.Predicates.{stated-each, if-both}
 use Rattle.arrow2_bitmap.proofs.immutable.Bitmap.from_slice_with.Goals as goal
 

@@ -1,9 +1,6 @@
-use Rattle.std.specs.Prelude.{cond}
-use Rattle.std.proofs.Common.{◌≡◌, ◌∙◌, List, Bool, IfOk, subst, ap, take, replicate, false, ℕ, ◌*◌, not, arith}
+use Rattle.std.proofs.Common.{◌≡◌, ◌∙◌, List, Bool, IfOk, subst, ap, take, replicate, false, ℕ, ◌*◌, not, arith, cond}
 use Rattle.std.proofs.lemmas.List.Folds.{sum_by-replicate}
-use Rattle.arrow2_model.specs.Bits.{bits}
-use Rattle.arrow2_model.specs.Parts.{falses}
-use Rattle.arrow2_model.specs.Storage.{items_of}
+use Rattle.arrow2_model.specs.Lists.{bits, falses, items_of}
 use Rattle.arrow2_model.proofs.Bytes.{front-zeros}
 use Rattle.arrow2_bitmap.proofs.immutable.Bitmap.new_zeroed.Goals as goal
 

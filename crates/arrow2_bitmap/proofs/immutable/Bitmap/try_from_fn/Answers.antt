@@ -1,7 +1,6 @@
-use Rattle.std.proofs.Common.{ℕ, ◌<◌, Bool, false, get_or, subst, ap, sym, ◌∙◌}
-use Rattle.std.proofs.lemmas.List.{get_or-take}
+use Rattle.std.proofs.Common.{ℕ, ◌<◌, Bool, false, get_or, subst, ap, sym, ◌∙◌, get_or-take}
 use Rattle.std.proofs.lemmas.Result.{MatchResult-weaker}
-use Rattle.arrow2_model.specs.Bits.{bits}
+use Rattle.arrow2_model.specs.Lists.{bits}
 use Rattle.arrow2_bitmap.proofs.Predicates.{stated-below}
 use Rattle.arrow2_bitmap.proofs.immutable.Bitmap.try_from_fn.Goals as goal
 

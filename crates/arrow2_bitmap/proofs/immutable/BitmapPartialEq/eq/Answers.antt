@@ -1,5 +1,5 @@
 use Rattle.std.proofs.Common.{rules}
-use Rattle.arrow2_model.specs.Storage.{items_of}
+use Rattle.arrow2_model.specs.Lists.{items_of}
 use Rattle.arrow2_bitmap.proofs.Same.{same_stated}
 use Rattle.arrow2_bitmap.proofs.immutable.BitmapPartialEq.eq.Goals as goal
 

@@ -1,5 +1,5 @@
 use Rattle.std.proofs.Common.{◌∙◌, ap, sym, length}
-use Rattle.arrow2_model.specs.Words.{full_words}
+use Rattle.arrow2_model.specs.Lists.{full_words}
 use Rattle.arrow2_bits.proofs.WordIterators.{words_left}
 use Rattle.arrow2_bits.proofs.chunk_iterator.BitChunks.len.Goals as goal
 

@@ -1,5 +1,5 @@
 use Rattle.std.proofs.Common.{◌∙◌, ap, arith, length, ◌*◌, ◌/◌}
-use Rattle.arrow2_model.specs.Bits.{bits}
+use Rattle.arrow2_model.specs.Lists.{bits}
 use Rattle.arrow2_model.proofs.Bits.{length-bits}
 use Rattle.arrow2_model.proofs.Parts.{length-part}
 use Rattle.arrow2_bits.proofs.WordIterators.{slice_end, new_cursor, new_items, new_spill}

@@ -1,6 +1,5 @@
 use Rattle.std.proofs.Common.{◌≡◌, take, length, subst}
-use Rattle.arrow2_model.specs.Bits.{unnum}
-use Rattle.arrow2_model.specs.Words.{WordCursor, rest}
+use Rattle.arrow2_model.specs.Lists.{unnum, WordCursor, rest}
 use Rattle.arrow2_bits.proofs.WordIterators.{rest_of_word}
 use Rattle.arrow2_bits.proofs.chunk_iterator.BitChunks.remainder.Goals as goal
 

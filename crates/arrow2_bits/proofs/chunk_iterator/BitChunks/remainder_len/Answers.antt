@@ -1,5 +1,5 @@
 use Rattle.std.proofs.Common.{◌∙◌, ap, sym, length, subst, ◌<◌, ◌^◌}
-use Rattle.arrow2_model.specs.Words.{WordCursor, rest}
+use Rattle.arrow2_model.specs.Lists.{WordCursor, rest}
 use Rattle.arrow2_bits.proofs.WordIterators.{length_of_rest, cursor_fits}
 use Rattle.arrow2_bits.proofs.chunk_iterator.BitChunks.remainder_len.Goals as goal
 

@@ -1,5 +1,5 @@
 use Rattle.std.proofs.Common.{◌∙◌, ap, sym, refl, length, arith, ◌*◌, ◌-◌}
-use Rattle.arrow2_model.specs.Words.{full_words, rest}
+use Rattle.arrow2_model.specs.Lists.{full_words, rest}
 use Rattle.arrow2_model.proofs.Words.{first_word-append, rest-whole}
 use Rattle.arrow2_bits.proofs.WordIterators.{slice_end, cursor_ended, cursor_moves}
 use Rattle.arrow2_bits.proofs.chunk_iterator.BitChunksIterator.next.Goals as goal

@@ -1,5 +1,5 @@
 use Rattle.std.proofs.Common.{rules, arith, ◌≡◌, length, ap, sym, ◌∙◌}
-use Rattle.arrow2_model.specs.Parts.{part}
+use Rattle.arrow2_model.specs.Lists.{part}
 use Rattle.arrow2_bits.specs.ChunksMut.{next_len, past}
 use Rattle.arrow2_bits.proofs.NextChunk.{left-past}
 use Rattle.arrow2_bits.proofs.chunks_exact_mut.BitChunksExactMut.change_next.Goals as goal

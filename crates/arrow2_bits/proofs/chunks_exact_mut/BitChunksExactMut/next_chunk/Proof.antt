@@ -2,8 +2,6 @@
 use mathlib.Core.Path.{◌≡◌, refl, ap, sym, subst, ◌∙◌}
 use Prim.Native.Nat.{ℕ, zero, suc, ◌<◌}
 use native.Mathlib.Omega.{arith}
-use mathlib.Core.List.{List, [], ◌∷◌}
-use lib.ListN.{length}
 use mir.Syntax.{Args, Fn, named, a_type}
 use mir.MapTy.{inst_fn}
 use mir.Val.{Val, of_list}
@@ -11,8 +9,6 @@ use base.Logic.{id⊢}
 use base.Fml.{GName, ftrue, flft, fres}
 use lib.Dec as D
 use lib.Dec.{lit<, eqb→eq}
-use mathlib.Core.Bool.{not}
-use mathlib.Core.Logic.{◌↔◌}
 use contract.Monad.{fact}
 use contract.Running.{tables}
 use denote.Param.{layouts}
@@ -41,10 +37,10 @@ use contract.Lifetimes.{Lfts}
 use Rattle.std.proofs.raw_atomic.Walks.{proved}
 use Rattle.std.proofs.VecSteps.Shapes.{after}
 use Rattle.std.proofs.VecSteps.Element.{Some-of, none_of}
-use Rattle.std.specs.Prelude.{Some, None}
+use Rattle.std.specs.Prelude.{Some, None, List, [], ◌∷◌, length, not, ◌↔◌}
 use Rattle.std.specs.contracts.option.Option as OP
 use Rattle.arrow2_bits.specs.ChunksMut.{ChunkCursorMut, chunks_left, next_len, past}
-use Rattle.arrow2_model.specs.Parts.{part}
+use Rattle.arrow2_model.specs.Lists.{part}
 use Rattle.arrow2_bits.proofs.NextChunk.{whole-chunk, past-none}
 use Rattle.arrow2_bits.specs.contracts.chunks_exact_mut.BitChunksExactMut.{the_row}
 use Rattle.arrow2_bits.specs.contracts.chunks_exact_mut.BitChunksExactMut.next_chunk as f

@@ -39,7 +39,7 @@ use denote.Triple.Table.{framed}
 use denote.Triple.Walked.{Stays, stay_dropped, walk_of, ends_at, says, Goes-spent_ref, Goes-dropped}
 use borrow.Table.Elements.{at, at_mul, length-take-le}
 use Rattle.std.proofs.raw_atomic.Walks.{proved}
-use Rattle.arrow2_model.specs.Buffers.{overwrite}
+use Rattle.arrow2_model.specs.Lists.{overwrite}
 use Rattle.arrow2_bits.specs.ChunksMut.{ChunkCursorMut}
 use Rattle.arrow2_bits.proofs.Lending.{part_lent, lends_part}
 use Rattle.arrow2_bits.specs.contracts.chunks_exact_mut.BitChunksExactMut.{the_row}

@@ -1,6 +1,5 @@
 use Rattle.std.proofs.Common.{◌∙◌, ap, arith, ◌/◌, ◌%◌}
-use Rattle.arrow2_model.specs.Bits.{bits}
-use Rattle.arrow2_model.specs.Parts.{part}
+use Rattle.arrow2_model.specs.Lists.{bits, part}
 use Rattle.arrow2_model.proofs.Bytes.{part-bits-drop}
 use Rattle.arrow2_bits.proofs.WordIterators.{slice_end}
 use Rattle.arrow2_bits.proofs.iterator.BitmapIter.new.Goals as goal

@@ -3,9 +3,7 @@
 use mathlib.Core.Path.{◌≡◌, refl, ap, ◌∙◌}
 use Prim.Native.Nat.{ℕ, ◌+◌, ◌-◌, ◌<◌, ◌≤◌, ◌^◌}
 use native.Mathlib.Omega.{arith}
-use mathlib.Core.List.{List, [], ◌∷◌, ◌++◌}
 use mathlib.Core.Option as maybe
-use lib.ListN.{length}
 use lib.Dec.{lit<}
 use seplogic.Ra.Ura.{Ura}
 use mir.Syntax
@@ -56,13 +54,12 @@ use Rattle.std.proofs.raw_atomic.Walks.{proved}
 use Rattle.std.proofs.VecSteps.Element.{Some-of, none_of}
 use Rattle.std.proofs.alloc.Global.TheLaws as heap_laws
 use Rattle.std.proofs.rc.Rc.TheLaws as rc_laws
-use Rattle.std.specs.Prelude.{Some, None, Option, IfSome}
+use Rattle.std.specs.Prelude.{Some, None, Option, IfSome, List, [], ◌∷◌, ◌++◌, length}
 use Rattle.std.specs.contracts.alloc.Global as heap
 use Rattle.std.specs.contracts.impls.GlobalAllocator.TheImpl.{ghosts}
 use Rattle.std.specs.contracts.option.Option as OP
 use Rattle.std.specs.Rc.{rc_with_value}
-use Rattle.arrow2_model.specs.Buffers.{BufferStorage, buffer_items}
-use Rattle.arrow2_model.specs.Parts.{part}
+use Rattle.arrow2_model.specs.Lists.{BufferStorage, buffer_items, part}
 use Rattle.arrow2_buffer.specs.Loans.{LendsOwnedPart, overwrite_lent, shared_row}
 use Rattle.arrow2_buffer.specs.contracts.bytes.Bytes as stored
 use Rattle.arrow2_buffer.specs.contracts.immutable.Buffer as buffer

@@ -1,6 +1,6 @@
 use Rattle.std.proofs.Common.{ap, ◌∙◌}
 use Rattle.std.proofs.lemmas.Result.{MatchResult-weaker}
-use Rattle.arrow2_model.specs.Buffers.{whole_buffer}
+use Rattle.arrow2_model.specs.Lists.{whole_buffer}
 use Rattle.arrow2_buffer.proofs.immutable.Buffer.try_from_iter.Goals as goal
 
 -- the collected items are the iterator's whole run

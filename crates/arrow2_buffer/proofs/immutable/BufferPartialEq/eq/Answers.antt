@@ -1,6 +1,6 @@
 use Rattle.std.proofs.Common.{rules}
 use Rattle.std.proofs.lemmas.Slice.Eq.{slice_eq-Decides}
-use Rattle.arrow2_model.specs.Buffers.{buffer_items}
+use Rattle.arrow2_model.specs.Lists.{buffer_items}
 use Rattle.arrow2_buffer.proofs.immutable.BufferPartialEq.eq.Goals as goal
 
 pub returns-clause-same : goal.returns-clause-same

@@ -1,9 +1,8 @@
-use Rattle.std.proofs.Common.{◌≡◌, length, ap, sym, ◌∙◌, arith}
-use Rattle.std.specs.Prelude.{◌&&◌}
+use Rattle.std.proofs.Common.{◌≡◌, length, ap, sym, ◌∙◌, arith, ◌&&◌}
 use Rattle.std.specs.Simd.Lanes.{zip2}
 use Rattle.arrow2_array.specs.Items.{boolean_items}
 use Rattle.arrow2_bitmap.proofs.Predicates.{stated-pairs}
-use Rattle.arrow2_model.specs.Storage.{items_of}
+use Rattle.arrow2_model.specs.Lists.{items_of}
 use Rattle.arrow2_text.specs.Binary.{binary_values}
 use Rattle.arrow2_validity.specs.OptionalValidity.{valid_items}
 use Rattle.arrow2_walks.specs.Zipped.{zipped}

@@ -1,5 +1,4 @@
-use Rattle.std.proofs.Common.{rules}
-use Rattle.std.specs.Prelude.{not}
+use Rattle.std.proofs.Common.{rules, not}
 use Rattle.arrow2_compute.specs.Comparisons.{bytes_eq}
 use Rattle.arrow2_compute.proofs.comparison.binary.neq_scalar.Goals as goal
 

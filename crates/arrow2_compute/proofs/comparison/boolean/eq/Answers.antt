@@ -1,5 +1,4 @@
-use Rattle.std.proofs.Common.{◌≡◌, subst}
-use Rattle.std.specs.Prelude.{IfOk}
+use Rattle.std.proofs.Common.{◌≡◌, subst, IfOk}
 use Rattle.std.specs.Simd.Lanes.{zip2}
 use Rattle.arrow2_array.specs.Items.{boolean_items}
 use Rattle.arrow2_numeric.specs.Pairs.{of_both}

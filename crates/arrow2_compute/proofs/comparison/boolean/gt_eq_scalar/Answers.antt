@@ -1,5 +1,4 @@
-use Rattle.std.proofs.Common.{◌≡◌, map, subst}
-use Rattle.std.specs.Prelude.{IfOk, option_map}
+use Rattle.std.proofs.Common.{◌≡◌, map, subst, IfOk, option_map}
 use Rattle.arrow2_array.specs.Items.{boolean_items}
 use Rattle.arrow2_compute.proofs.Comparisons.{gt_eq-table}
 use Rattle.arrow2_compute.proofs.comparison.boolean.gt_eq_scalar.Goals as goal

@@ -1,5 +1,5 @@
 use Rattle.std.proofs.Common.{◌≡◌, ◌<◌, ◌≤◌, ◌^◌, ℕ, List, [], ◌∷◌, Bool, ap, length, subst, sym, arith}
-use Rattle.arrow2_model.specs.Kernels.{word}
+use Rattle.arrow2_model.specs.Lists.{word}
 use Rattle.arrow2_model.proofs.Numbers.{num-part-lt}
 use Rattle.arrow2_kernels.proofs.RowSteps.{one_word}
 use Rattle.arrow2_ffi.proofs.BoolSteps.{fewer_items, first_block, next_block}

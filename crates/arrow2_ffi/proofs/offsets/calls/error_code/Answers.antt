@@ -1,5 +1,4 @@
-use Rattle.std.proofs.Common.{◌≡◌, ap, List, map, arith}
-use Rattle.std.specs.Prelude.{ℤ, Some, IsNone}
+use Rattle.std.proofs.Common.{◌≡◌, ap, List, map, arith, ℤ, Some, IsNone}
 use Rattle.arrow2_offset.specs.Offsets.{AreOffsets}
 use Rattle.arrow2_offset.specs.Failures.{first_broken_rule}
 use Rattle.arrow2_offset.specs.declared.check.BrokenRule.{BrokenRule}

@@ -1,5 +1,4 @@
-use Rattle.std.proofs.Common.{refl, arith}
-use Rattle.std.proofs.lemmas.List.{map-id}
+use Rattle.std.proofs.Common.{refl, arith, map-id}
 use Rattle.arrow2_ffi.specs.declared.codes.TheConstants.{ARROW2_OVERFLOW}
 use Rattle.arrow2_ffi.proofs.OffsetCodes.{not_offsets_or, ill_fitting_or, beyond_or, written_or}
 use Rattle.arrow2_ffi.proofs.offsets.widths.arrow2_offsets_narrow.Goals as goal

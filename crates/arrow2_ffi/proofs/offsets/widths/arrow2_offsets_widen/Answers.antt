@@ -1,5 +1,4 @@
-use Rattle.std.proofs.Common.{refl}
-use Rattle.std.proofs.lemmas.List.{map-id}
+use Rattle.std.proofs.Common.{refl, map-id}
 use Rattle.arrow2_ffi.proofs.OffsetCodes.{not_offsets, ill_fitting, written}
 use Rattle.arrow2_ffi.proofs.offsets.widths.arrow2_offsets_widen.Goals as goal
 

@@ -1,5 +1,4 @@
-use Rattle.std.proofs.Common.{◌≡◌, ◌∙◌, rules, arith, ap, sym, length, refl, []}
-use Rattle.std.specs.Prelude.{◌<ℤ◌}
+use Rattle.std.proofs.Common.{◌≡◌, ◌∙◌, rules, arith, ap, sym, length, refl, [], ◌<ℤ◌}
 use Rattle.std.proofs.lemmas.Int.{ints}
 use Rattle.arrow2_index.proofs.Ranges.{integers-none, integers-first}
 use Rattle.arrow2_index.proofs.index.IndexRangeIterator.next.Goals as goal

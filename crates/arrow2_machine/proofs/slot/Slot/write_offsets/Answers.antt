@@ -1,5 +1,5 @@
 use Rattle.std.proofs.Common.{◌∙◌, rules}
-use Rattle.arrow2.specs.Buffers.{buffer_items}
+use Rattle.arrow2.specs.Lists.{buffer_items}
 use Rattle.arrow2.specs.Offsets.{offsets_of, offsets_list, start_of, lengths_of}
 use Rattle.arrow2_machine.proofs.OffsetLemmas.{offsets_said}
 use Rattle.arrow2_machine.proofs.slot.Slot.write_offsets.Goals as goal

@@ -1,9 +1,5 @@
-use Rattle.std.proofs.Common.{◌≡◌, ◌++◌, ℕ, ◌+◌, ◌-◌, ◌<◌, Bool, false, zero, suc, inl, inr, length, take, drop, replicate, ap, sym, ◌∙◌, arith}
-use Rattle.std.specs.Prelude.{◌⊎◌}
-use Rattle.std.specs.Bool.{◌==◌}
-use Rattle.std.proofs.Math.ListN.{drop_of_length-le}
-use Rattle.std.proofs.lemmas.List.{append-nil, length-append, take_all}
-use Rattle.arrow2_model.specs.Bits.{unnum}
+use Rattle.std.proofs.Common.{◌≡◌, ◌++◌, ℕ, ◌+◌, ◌-◌, ◌<◌, Bool, false, zero, suc, inl, inr, length, take, drop, replicate, ap, sym, ◌∙◌, arith, ◌⊎◌, ◌==◌, drop_of_length-le, append-nil, length-append, take_all}
+use Rattle.arrow2_model.specs.Lists.{unnum}
 use Rattle.arrow2_model.proofs.Bits.{length-unnum}
 use Rattle.arrow2_walks.specs.Selections.{selection}
 use Rattle.arrow2_numeric.proofs.Selecting.{front-of, block-selected, last-selected, mask-first, mask-last, mask-left}

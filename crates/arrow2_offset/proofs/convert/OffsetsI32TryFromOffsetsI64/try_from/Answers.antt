@@ -1,6 +1,4 @@
-use Rattle.std.proofs.Common.{◌≡◌, ◌∙◌, map, sym}
-use Rattle.std.specs.Prelude.{pos}
-use Rattle.std.proofs.lemmas.List.{map-id}
+use Rattle.std.proofs.Common.{◌≡◌, ◌∙◌, map, sym, pos, map-id}
 use Rattle.arrow2_offset.specs.Offsets.{offsets_of, last_of_growing}
 use Rattle.arrow2_offset.proofs.Growing.{list_up_to, tested_last}
 use Rattle.arrow2_offset.proofs.convert.OffsetsI32TryFromOffsetsI64.try_from.Goals as goal

@@ -1,4 +1,4 @@
-use Rattle.arrow2_model.specs.Buffers.{buffer_items}
+use Rattle.arrow2_model.specs.Lists.{buffer_items}
 use Rattle.arrow2_offset.proofs.Growing.{value_last_of}
 use Rattle.arrow2_offset.proofs.immutable.OffsetsBuffer.last.Goals as goal
 

@@ -1,5 +1,5 @@
 use Rattle.std.proofs.Common.{◌+◌, ◌-◌, arith, refl}
-use Rattle.arrow2_model.specs.Buffers.{buffer_items}
+use Rattle.arrow2_model.specs.Lists.{buffer_items}
 use Rattle.arrow2_offset.proofs.Growing.{slice_of}
 use Rattle.arrow2_offset.proofs.immutable.OffsetsBuffer.offsets_of_slots.Goals as goal
 

@@ -1,4 +1,4 @@
-use Rattle.arrow2_model.specs.Buffers.{buffer_items}
+use Rattle.arrow2_model.specs.Lists.{buffer_items}
 use Rattle.arrow2_offset.specs.Offsets.{offsets_list, start_of, lengths_of}
 use Rattle.arrow2_offset.proofs.Same.{numbers_same, spelled_same}
 use Rattle.arrow2_offset.proofs.immutable.OffsetsBufferPartialEq.eq.Goals as goal

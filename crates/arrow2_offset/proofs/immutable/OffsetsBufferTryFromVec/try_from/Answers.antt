@@ -1,5 +1,4 @@
-use Rattle.std.proofs.Common.{map, ap}
-use Rattle.std.specs.Prelude.{pos}
+use Rattle.std.proofs.Common.{map, ap, pos}
 use Rattle.std.proofs.lemmas.Result.{MatchResult-weaker}
 use Rattle.arrow2_offset.specs.Offsets.{offsets_of}
 use Rattle.arrow2_offset.proofs.Growing.{whole_of_list}

@@ -1,5 +1,4 @@
-use Rattle.std.proofs.Common.{◌+◌, ◌-◌, ◌∙◌, [], ◌∷◌, sym, ap, arith, length, map, take, refl}
-use Rattle.std.proofs.lemmas.List.{length-append}
+use Rattle.std.proofs.Common.{◌+◌, ◌-◌, ◌∙◌, [], ◌∷◌, sym, ap, arith, length, map, take, refl, length-append}
 use Rattle.arrow2_offset.specs.Offsets.{lengths_of}
 use Rattle.arrow2_offset.proofs.Growing.{length_slots}
 use Rattle.arrow2_offset.proofs.Cursor.{no_length, last_length}

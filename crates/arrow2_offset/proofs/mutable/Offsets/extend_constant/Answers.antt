@@ -1,5 +1,4 @@
-use Rattle.std.proofs.Common.{arith, ◌≡◌, ◌∙◌, ◌+◌, sym, ap}
-use Rattle.std.specs.Prelude.{pos}
+use Rattle.std.proofs.Common.{arith, ◌≡◌, ◌∙◌, ◌+◌, sym, ap, pos}
 use Rattle.arrow2_types.specs.Failures.{error_of}
 use Rattle.arrow2_offset.specs.Offsets.{last_of_growing}
 use Rattle.arrow2_offset.proofs.Growing.{length_slots, repeated}

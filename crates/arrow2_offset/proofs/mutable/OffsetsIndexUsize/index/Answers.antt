@@ -1,5 +1,4 @@
-use Rattle.std.proofs.Common.{◌∙◌, ap, arith, length, map, refl}
-use Rattle.std.specs.Prelude.{pos}
+use Rattle.std.proofs.Common.{◌∙◌, ap, arith, length, map, refl, pos}
 use Rattle.arrow2_offset.specs.Offsets.{start_of, lengths_of, offset_at}
 use Rattle.arrow2_offset.proofs.OffsetLists.{start_of-list}
 use Rattle.arrow2_offset.proofs.Appending.{value_at}

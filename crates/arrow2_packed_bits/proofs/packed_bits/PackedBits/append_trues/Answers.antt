@@ -1,5 +1,5 @@
 use Rattle.std.proofs.Common.{rules, ◌∙◌, ◌-◌, ◌++◌, true, length, take, replicate, ap, sym, arith}
-use Rattle.arrow2_model.specs.Bits.{bits}
+use Rattle.arrow2_model.specs.Lists.{bits}
 use Rattle.arrow2_packed_bits.proofs.Buffer.{length_items}
 use Rattle.arrow2_packed_bits.proofs.ConstantBytes.{trues_following, resized}
 use Rattle.arrow2_packed_bits.proofs.packed_bits.PackedBits.append_trues.Goals as goal

@@ -1,5 +1,5 @@
 use Rattle.std.proofs.Common.{◌∙◌, ℕ, List, Bool, [], ◌∷◌, ap, sym, take, length, arith}
-use Rattle.arrow2_model.specs.Bits.{bits}
+use Rattle.arrow2_model.specs.Lists.{bits}
 use Rattle.arrow2_model.specs.Tables.{each}
 use Rattle.arrow2_kernels.proofs.VectorWrites.{whole_written}
 use Rattle.arrow2_packed_bits.proofs.Buffer.{length_items}

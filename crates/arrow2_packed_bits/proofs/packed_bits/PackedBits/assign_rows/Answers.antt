@@ -1,6 +1,6 @@
 use Rattle.std.proofs.Common.{◌≡◌, ◌∙◌, ℕ, List, ◌∷◌, Bool, ap, sym, subst, length, take, arith}
-use Rattle.arrow2_model.specs.Bits.{bits}
-use Rattle.arrow2_model.specs.Kernels.{word, bits_of_words, kernel}
+use Rattle.arrow2_model.specs.Lists.{bits, word}
+use Rattle.arrow2_model.specs.Kernels.{bits_of_words, kernel}
 use Rattle.arrow2_model.specs.Tables.{each}
 use Rattle.arrow2_model.proofs.Kernels.{table_word}
 use Rattle.arrow2_model.proofs.RowKernels.{rows_kernel, rows_table, acts_paired}

@@ -1,5 +1,5 @@
 use Rattle.std.proofs.Common.{◌≡◌, ◌∙◌, ℕ, ◌+◌, ◌/◌, ap, sym, length, replicate, take, vec_len, arith}
-use Rattle.arrow2_model.specs.Bits.{bits}
+use Rattle.arrow2_model.specs.Lists.{bits}
 use Rattle.arrow2_packed_bits.proofs.Buffer.{length_items}
 use Rattle.arrow2_packed_bits.proofs.ConstantBytes.{front_of_ones, front_of_zeros}
 use Rattle.arrow2_packed_bits.proofs.packed_bits.PackedBits.fill.Goals as goal

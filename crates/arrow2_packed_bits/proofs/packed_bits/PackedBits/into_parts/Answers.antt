@@ -1,5 +1,5 @@
 use Rattle.std.proofs.Common.{◌∙◌, ap}
-use Rattle.arrow2_model.specs.Canonical.{canonical_bytes}
+use Rattle.arrow2_model.specs.Lists.{canonical_bytes}
 use Rattle.arrow2_model.proofs.Canonical.{canonical_is}
 use Rattle.arrow2_packed_bits.proofs.packed_bits.PackedBits.into_parts.Goals as goal
 

@@ -1,7 +1,6 @@
 use Rattle.std.proofs.Common.{◌≡◌, ◌∙◌, ◌+◌, ◌/◌, ◌%◌, ℕ, List, Bool, [], ◌∷◌, ◌++◌, false, get_or, set, take, bit_and, ap, sym, arith}
 use Rattle.std.proofs.lemmas.Grind.{get_or_default_zero}
-use Rattle.arrow2_model.specs.Bits.{bit, bits}
-use Rattle.arrow2_model.specs.Canonical.{IsCanonical}
+use Rattle.arrow2_model.specs.Lists.{bit, bits, IsCanonical}
 use Rattle.arrow2_model.proofs.Bits.{get_or-bits_at}
 use Rattle.arrow2_packed_bits.proofs.Buffer.{below, cut_last, popped}
 use Rattle.arrow2_packed_bits.proofs.packed_bits.PackedBits.pop.Goals as goal

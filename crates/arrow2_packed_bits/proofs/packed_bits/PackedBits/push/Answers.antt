@@ -1,5 +1,5 @@
 use Rattle.std.proofs.Common.{◌∙◌, ◌≤◌, ◌<◌, ◌+◌, ◌^◌, [], ◌∷◌, ◌++◌, ap, take, refl, arith, rules, vec_capacity, length}
-use Rattle.arrow2_model.specs.Bits.{bits}
+use Rattle.arrow2_model.specs.Lists.{bits}
 use Rattle.arrow2_packed_bits.proofs.Buffer.{length_items, push_byte, push_position}
 use Rattle.arrow2_packed_bits.proofs.WordPushes.{Hold}
 use Rattle.arrow2_packed_bits.proofs.packed_bits.PackedBits.push.Goals as goal

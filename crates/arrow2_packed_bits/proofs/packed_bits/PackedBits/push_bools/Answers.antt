@@ -1,6 +1,6 @@
 use Rattle.std.proofs.Common.{◌≡◌, ◌∙◌, ◌+◌, ◌*◌, ◌/◌, ◌++◌, List, Bool, [], ap, arith, rules, length, take, drop, get_or, subst, sym, OnOk}
 use Rattle.std.proofs.lemmas.Bool.{false≢true}
-use Rattle.arrow2_model.specs.Bits.{unnum}
+use Rattle.arrow2_model.specs.Lists.{unnum}
 use Rattle.arrow2_model.proofs.Bits.{length-unnum}
 use Rattle.arrow2_packed_bits.proofs.PackedWords.{block_at, block_first, length-block_of, word_items, front_items}
 use Rattle.arrow2_packed_bits.proofs.Whole.{moved_on, whole_word, length-append_word}

@@ -1,6 +1,6 @@
 use Rattle.std.proofs.Common.{◌∙◌, ◌++◌, ◌+◌, ◌*◌, ap, arith, rules, length, take}
 use Rattle.std.proofs.lemmas.Bool.{false≢true}
-use Rattle.arrow2_model.specs.Bits.{bits}
+use Rattle.arrow2_model.specs.Lists.{bits}
 use Rattle.arrow2_model.proofs.Bits.{length-bits}
 use Rattle.arrow2_packed_bits.proofs.Buffer.{length_items}
 use Rattle.arrow2_packed_bits.proofs.WordPushes.{Hold}

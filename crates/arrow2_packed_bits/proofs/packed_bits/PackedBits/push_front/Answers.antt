@@ -1,7 +1,6 @@
-use Rattle.std.proofs.Common.{◌∙◌, ◌/◌, ◌%◌, ap, arith, rules, length, take}
+use Rattle.std.proofs.Common.{◌∙◌, ◌/◌, ◌%◌, ap, arith, rules, length, take, length-take-le}
 use Rattle.std.proofs.lemmas.Bool.{false≢true}
-use Rattle.std.proofs.lemmas.List.{length-take-le}
-use Rattle.arrow2_model.specs.Bits.{bits, unnum}
+use Rattle.arrow2_model.specs.Lists.{bits, unnum}
 use Rattle.arrow2_model.proofs.Bits.{length-bits, length-unnum}
 use Rattle.arrow2_packed_bits.proofs.Whole.{pushed_front, pushed_whole_front, length-append_bits}
 use Rattle.arrow2_packed_bits.proofs.packed_bits.PackedBits.push_front.Goals as goal

@@ -1,8 +1,6 @@
-use Rattle.std.proofs.Common.{◌≡◌, ◌∙◌, ◌*◌, ◌/◌, ◌+◌, ◌-◌, List, Bool, ℕ, length, take, drop, ap, arith, subst}
-use Rattle.std.proofs.lemmas.List.{take_all, length-drop}
+use Rattle.std.proofs.Common.{◌≡◌, ◌∙◌, ◌*◌, ◌/◌, ◌+◌, ◌-◌, List, Bool, ℕ, length, take, drop, ap, arith, subst, take_all, length-drop}
 use Rattle.arrow2_packed_bits.specs.Growth.{Pushes}
-use Rattle.arrow2_model.specs.Bits.{bits}
-use Rattle.arrow2_model.specs.Parts.{part}
+use Rattle.arrow2_model.specs.Lists.{bits, part}
 use Rattle.arrow2_model.proofs.Bytes.{part-bits-drop}
 use Rattle.arrow2_packed_bits.proofs.packed_bits.PackedBits.push_part.Goals as goal
 

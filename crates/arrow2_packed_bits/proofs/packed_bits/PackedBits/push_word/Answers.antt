@@ -1,7 +1,6 @@
-use Rattle.std.proofs.Common.{◌∙◌, ◌≤◌, ◌+◌, ◌-◌, ◌++◌, ap, refl, arith, rules, length, take, vec_capacity}
+use Rattle.std.proofs.Common.{◌∙◌, ◌≤◌, ◌+◌, ◌-◌, ◌++◌, ap, refl, arith, rules, length, take, vec_capacity, length-take-le}
 use Rattle.std.proofs.lemmas.Bool.{false≢true}
-use Rattle.std.proofs.lemmas.List.{length-take-le}
-use Rattle.arrow2_model.specs.Bits.{bits, unnum}
+use Rattle.arrow2_model.specs.Lists.{bits, unnum}
 use Rattle.arrow2_model.proofs.Bits.{length-unnum}
 use Rattle.arrow2_packed_bits.proofs.Buffer.{length_items, word_fits}
 use Rattle.arrow2_packed_bits.proofs.WordPushes.{Hold, pushed_whole, pushed_within, last_clear}

@@ -1,8 +1,6 @@
-use Rattle.std.proofs.Common.{◌≡◌, ◌∙◌, ◌++◌, List, Bool, ap, refl, subst, arith, rules, length, take, OnOk}
+use Rattle.std.proofs.Common.{◌≡◌, ◌∙◌, ◌++◌, List, Bool, ap, refl, subst, arith, rules, length, take, OnOk, length-append}
 use Rattle.std.proofs.lemmas.Bool.{false≢true}
-use Rattle.arrow2_model.specs.Bits.{unnum}
-use Rattle.std.proofs.lemmas.List.{length-append}
-use Rattle.arrow2_model.specs.Words.{rest}
+use Rattle.arrow2_model.specs.Lists.{unnum, rest}
 use Rattle.arrow2_model.proofs.Bits.{length-unnum}
 use Rattle.arrow2_packed_bits.proofs.Whole.{moved_on, whole_word, rest_pushed, length-joined, length-word}
 use Rattle.arrow2_packed_bits.proofs.packed_bits.PackedBits.push_words.Goals as goal

@@ -1,6 +1,6 @@
 use Rattle.std.proofs.Common.{◌∙◌, ◌%◌, ◌/◌, ap, set, take, length, refl, arith}
 use Rattle.std.proofs.lemmas.Grind.{get_or_default_zero}
-use Rattle.arrow2_model.specs.Bits.{bits, unnum}
+use Rattle.arrow2_model.specs.Lists.{bits, unnum}
 use Rattle.arrow2_packed_bits.proofs.Buffer.{length_items, bit_written}
 use Rattle.arrow2_packed_bits.proofs.WordPushes.{Hold}
 use Rattle.arrow2_packed_bits.proofs.packed_bits.PackedBits.set.Goals as goal

@@ -1,6 +1,5 @@
-use Rattle.std.proofs.Common.{◌∙◌, ◌++◌, ◌*◌, ◌+◌, ◌-◌, ℕ, List, Bool, ap, sym, refl, arith, length}
-use Rattle.std.proofs.lemmas.List.{take_all}
-use Rattle.arrow2_model.specs.Bits.{bits}
+use Rattle.std.proofs.Common.{◌∙◌, ◌++◌, ◌*◌, ◌+◌, ◌-◌, ℕ, List, Bool, ap, sym, refl, arith, length, take_all}
+use Rattle.arrow2_model.specs.Lists.{bits}
 use Rattle.arrow2_model.proofs.Bits.{bits-nil}
 use Rattle.arrow2_packed_bits.proofs.Whole.{word_in_block, length-word_in_block}
 use Rattle.arrow2_packed_bits.proofs.packed_bits.extend.next_block.Goals as goal

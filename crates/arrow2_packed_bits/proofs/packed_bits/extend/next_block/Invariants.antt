@@ -1,6 +1,5 @@
 use Rattle.std.proofs.Common.{◌≡◌, ◌+◌, ◌*◌, ◌≤◌, ◌++◌, take, length}
-use Rattle.arrow2_model.specs.Bits.{bits}
-use Rattle.arrow2_model.specs.Words.{full_words}
+use Rattle.arrow2_model.specs.Lists.{bits, full_words}
 use Rattle.arrow2_packed_bits.proofs.packed_bits.extend.next_block.Given as goal
 
 abbrev pub invariant-loop-i : goal.invariant-loop-i

@@ -1,5 +1,5 @@
 use Rattle.std.proofs.Common.{ap, ◌∙◌}
-use Rattle.arrow2_model.specs.Buffers.{buffer_items}
+use Rattle.arrow2_model.specs.Lists.{buffer_items}
 use Rattle.arrow2_walks.proofs.Zipped.{item-zipped}
 use Rattle.arrow2_validity.specs.OptionalValidity.{valid_items}
 use Rattle.arrow2_primitive.specs.Primitive.{primitive_items}

@@ -1,5 +1,4 @@
-use Rattle.std.proofs.Common.{◌∙◌, true, ap, refl, subst}
-use Rattle.std.specs.Prelude.{Some}
+use Rattle.std.proofs.Common.{◌∙◌, true, ap, refl, subst, Some}
 use Rattle.std.specs.Fmt.{◌++?◌, HasWritten, debug_list}
 use Rattle.arrow2_validity.specs.ItemTexts.{item_output}
 use Rattle.arrow2_validity.proofs.ArrayTexts.{displays-from, shows-from, shows-then}

@@ -1,5 +1,4 @@
-use Rattle.std.proofs.Common.{◌∙◌, ◌++◌, ap, map, arith}
-use Rattle.std.specs.Prelude.{Err}
+use Rattle.std.proofs.Common.{◌∙◌, ◌++◌, ap, map, arith, Err}
 use Rattle.arrow2_types.specs.declared.error.Error.TheVariants.{Overflow}
 use Rattle.arrow2_text.specs.Growth.{bytes_of_items}
 use Rattle.arrow2_text.proofs.CollectedItems.{handed-on, made-bytes, made-items, made-type, no-overflow, not-failed, only-memory, past-all}

@@ -1,5 +1,4 @@
-use Rattle.std.proofs.Common.{None, ap, get_or, ◌∙◌}
-use Rattle.std.specs.Option.{option_copied}
+use Rattle.std.proofs.Common.{None, ap, get_or, ◌∙◌, option_copied}
 use Rattle.arrow2_text.specs.Binary.{binary_items}
 use Rattle.arrow2_text.proofs.SlotItems.{copied-item, copied-known}
 use Rattle.arrow2_text.proofs.generic_byte_array.GenericByteArray.get_bytes.Goals as goal

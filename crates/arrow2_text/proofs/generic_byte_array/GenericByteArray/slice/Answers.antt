@@ -1,5 +1,5 @@
 use Rattle.std.proofs.Common.{◌≤◌, length, ap, ◌∙◌}
-use Rattle.arrow2_model.specs.Buffers.{buffer_items}
+use Rattle.arrow2_model.specs.Lists.{buffer_items}
 use Rattle.arrow2_offset.specs.Offsets.{last_of}
 use Rattle.arrow2_datatypes.specs.Types.{physical}
 use Rattle.arrow2_datatypes.specs.declared.physical_type.PhysicalType.{PhysicalType}

@@ -1,6 +1,5 @@
-use Rattle.std.proofs.Common.{◌≡◌, ◌-◌, ◌+◌, ◌∙◌, [], false, length, sum, take, drop, get_or, ap, sym, subst, arith}
-use Rattle.std.specs.Prelude.{IfOk, option_map}
-use Rattle.arrow2_model.specs.Parts.{part}
+use Rattle.std.proofs.Common.{◌≡◌, ◌-◌, ◌+◌, ◌∙◌, [], false, length, sum, take, drop, get_or, ap, sym, subst, arith, IfOk, option_map}
+use Rattle.arrow2_model.specs.Lists.{part}
 use Rattle.arrow2_walks.specs.Zipped.{slot}
 use Rattle.arrow2_offset.proofs.NestedLists.{at-cut}
 use Rattle.arrow2_text.proofs.growing.Growing.copy_of.Goals as goal

@@ -1,5 +1,4 @@
-use Rattle.std.proofs.Common.{All, map, take}
-use Rattle.std.specs.Prelude.{IfSome, is_some}
+use Rattle.std.proofs.Common.{All, map, take, IfSome, is_some}
 use Rattle.arrow2_text.specs.Growth.{GrownBySlots, bytes_of_items, values_of_items}
 use Rattle.arrow2_text.proofs.growing.Growing.extend_reserved.Given as goal
 

@@ -1,4 +1,4 @@
-use Rattle.std.proofs.Common.{◌≡◌, List, Bool, count_by, length, ap, sym, ◌∙◌, subst}
+use Rattle.std.proofs.Common.{◌≡◌, List, Bool, count_by, length, ap, sym, ◌∙◌, subst, IfSome, ◌↔◌, IsNone, is_none}
 use Rattle.arrow2_validity.specs.OptionalValidity.{valid_items}
 use Rattle.arrow2_offset.proofs.NestedLists.{length-cut}
 use Rattle.arrow2_text.specs.Binary.{BinaryParts, binary_items, binary_values, IsCompact}
@@ -6,10 +6,8 @@ use Rattle.arrow2_text.specs.Growth.{GrowingSlots}
 use Rattle.arrow2_text.proofs.GrowthItems.{bitmap-there}
 use Rattle.arrow2_validity.proofs.ValidItems.{left-out}
 use Rattle.arrow2_text.proofs.SlotLists.{frozen-values, compact-slots, packed-alone}
-use Rattle.std.specs.Prelude.{IfSome, ◌↔◌}
-use Rattle.std.specs.Option.{IsNone, is_none}
 use Rattle.std.proofs.Math.Seq.{take-length}
-use Rattle.arrow2_model.specs.Buffers.{buffer_items}
+use Rattle.arrow2_model.specs.Lists.{buffer_items}
 use Rattle.arrow2_bitmap.specs.PackedBitmaps.{IsPacked}
 use Rattle.arrow2_text.proofs.growing.Growing.freeze.Goals as goal
 

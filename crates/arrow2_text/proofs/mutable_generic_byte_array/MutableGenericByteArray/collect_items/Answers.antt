@@ -1,5 +1,4 @@
-use Rattle.std.proofs.Common.{◌∙◌, ◌+◌, ◌++◌, ◌∷◌, [], length, map, ap, sym, subst}
-use Rattle.std.specs.Prelude.{Err}
+use Rattle.std.proofs.Common.{◌∙◌, ◌+◌, ◌++◌, ◌∷◌, [], length, map, ap, sym, subst, Err}
 use Rattle.std.specs.Option.{option_map_or}
 use Rattle.std.proofs.iter.Next.{Yields-more}
 use Rattle.std.proofs.iter.runs.Made.{run_of_exit}

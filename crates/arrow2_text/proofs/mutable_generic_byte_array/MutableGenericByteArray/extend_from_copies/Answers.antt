@@ -1,6 +1,5 @@
-use Rattle.std.proofs.Common.{◌*◌, length, replicate, [], ap, ◌∙◌}
+use Rattle.std.proofs.Common.{◌*◌, length, replicate, [], ap, ◌∙◌, is_some}
 use Rattle.std.specs.Option.{option_copied, option_map_or, unwrap_or}
-use Rattle.std.specs.Prelude.{is_some}
 use Rattle.arrow2_datatypes.specs.Types.{physical}
 use Rattle.arrow2_text.proofs.AppendedItems.{appends-copies, copied-values}
 use Rattle.arrow2_text.proofs.GrowingValues.{grown-values}

@@ -1,5 +1,4 @@
-use Rattle.std.proofs.Common.{ap, map, ◌∙◌}
-use Rattle.std.specs.Prelude.{is_some}
+use Rattle.std.proofs.Common.{ap, map, ◌∙◌, is_some}
 use Rattle.arrow2_datatypes.specs.Types.{physical}
 use Rattle.arrow2_text.specs.Growth.{bytes_of_items, values_of_items}
 use Rattle.arrow2_text.proofs.AppendedItems.{appends-given, known-values}

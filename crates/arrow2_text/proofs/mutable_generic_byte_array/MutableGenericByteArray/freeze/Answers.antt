@@ -1,5 +1,5 @@
 use Rattle.std.proofs.Common.{◌≤◌, length}
-use Rattle.arrow2_model.specs.Buffers.{buffer_items}
+use Rattle.arrow2_model.specs.Lists.{buffer_items}
 use Rattle.arrow2_offset.specs.Offsets.{last_of}
 use Rattle.arrow2_text.specs.Binary.{binary_values}
 use Rattle.arrow2_text.proofs.GrowingValues.{same-values}

@@ -1,5 +1,4 @@
-use Rattle.std.proofs.Common.{[], ◌∷◌, length, ap, refl, ◌∙◌}
-use Rattle.std.specs.Option.{option_copied}
+use Rattle.std.proofs.Common.{[], ◌∷◌, length, ap, refl, ◌∙◌, option_copied}
 use Rattle.arrow2_datatypes.specs.Types.{physical}
 use Rattle.arrow2_text.proofs.AppendedItems.{one-known, value-by_option}
 use Rattle.arrow2_text.proofs.GrowingValues.{grown-values}

@@ -1,5 +1,5 @@
 use Rattle.std.proofs.Common.{ap, get_or, refl, arith}
-use Rattle.arrow2_model.specs.Buffers.{buffer_items}
+use Rattle.arrow2_model.specs.Lists.{buffer_items}
 use Rattle.arrow2_offset.specs.Offsets.{lengths_of}
 use Rattle.arrow2_text.proofs.SameSlots.{parts-alike, parts-differ}
 use Rattle.arrow2_text.proofs.slots.Slots.same_lengths.Goals as goal

@@ -1,5 +1,5 @@
 use Rattle.std.proofs.Common.{◌≡◌, ℕ, ◌<◌, ◌≤◌, get_or}
-use Rattle.arrow2_model.specs.Buffers.{buffer_items}
+use Rattle.arrow2_model.specs.Lists.{buffer_items}
 use Rattle.arrow2_offset.specs.Offsets.{lengths_of}
 use Rattle.arrow2_text.proofs.slots.Slots.same_lengths.Given as goal
 

@@ -1,7 +1,6 @@
 use Rattle.std.proofs.Common.{◌≡◌, ◌∙◌, ℕ, ◌+◌, ◌≤◌, All, List, length, get_or, ap, sym, subst, arith, rules}
-use Rattle.arrow2_model.specs.Parts.{part}
+use Rattle.arrow2_model.specs.Lists.{part, items_of}
 use Rattle.arrow2_model.proofs.Parts.{length-part}
-use Rattle.arrow2_model.specs.Storage.{items_of}
 use Rattle.arrow2_walks.specs.Runs.{runs}
 use Rattle.arrow2_walks.proofs.RemainingItems.{left-all}
 use Rattle.arrow2_text.specs.Binary.{binary_values}

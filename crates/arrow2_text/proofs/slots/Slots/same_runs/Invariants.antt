@@ -1,6 +1,5 @@
 use Rattle.std.proofs.Common.{◌≡◌, ◌↔◌, ◌+◌, ◌≤◌, All, flat_map, length}
-use Rattle.arrow2_model.specs.Parts.{part}
-use Rattle.arrow2_model.specs.Storage.{items_of}
+use Rattle.arrow2_model.specs.Lists.{part, items_of}
 use Rattle.arrow2_walks.specs.Zipped.{zipped}
 use Rattle.arrow2_text.specs.Binary.{binary_values}
 use Rattle.arrow2_text.proofs.slots.Slots.same_runs.Given as goal

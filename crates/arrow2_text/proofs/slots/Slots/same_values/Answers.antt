@@ -1,5 +1,5 @@
 use Rattle.std.proofs.Common.{◌≡◌, ◌∙◌, Decides, ap, length, sym, rules}
-use Rattle.arrow2_model.specs.Buffers.{buffer_items}
+use Rattle.arrow2_model.specs.Lists.{buffer_items}
 use Rattle.arrow2_offset.specs.Offsets.{lengths_of, start_of}
 use Rattle.arrow2_text.proofs.SameSlots.{values-alike}
 use Rattle.arrow2_text.proofs.slots.Slots.same_values.Goals as goal

@@ -1,5 +1,5 @@
 use Rattle.std.proofs.Common.{◌+◌, ◌≤◌, length, drop, ap, sym, ◌∙◌, arith}
-use Rattle.arrow2_model.specs.Buffers.{buffer_items}
+use Rattle.arrow2_model.specs.Lists.{buffer_items}
 use Rattle.arrow2_model.proofs.Parts.{length-part}
 use Rattle.arrow2_offset.specs.Offsets.{lengths_of, start_of}
 use Rattle.arrow2_validity.specs.OptionalValidity.{valid_items}

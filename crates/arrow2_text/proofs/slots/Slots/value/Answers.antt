@@ -1,6 +1,5 @@
-use Rattle.std.proofs.Common.{◌≡◌, [], length, drop, get_or, ap, sym, ◌∙◌}
-use Rattle.std.specs.Prelude.{Some}
-use Rattle.arrow2_model.specs.Buffers.{buffer_items}
+use Rattle.std.proofs.Common.{◌≡◌, [], length, drop, get_or, ap, sym, ◌∙◌, Some}
+use Rattle.arrow2_model.specs.Lists.{buffer_items}
 use Rattle.arrow2_offset.specs.Offsets.{lengths_of, start_of}
 use Rattle.arrow2_offset.proofs.NestedLists.{length-cut}
 use Rattle.arrow2_utf8.specs.Texts.{slot_values}

@@ -1,5 +1,4 @@
-use Rattle.std.proofs.Common.{map}
-use Rattle.std.specs.Prelude.{Some}
+use Rattle.std.proofs.Common.{map, Some}
 use Rattle.arrow2_text.proofs.AppendedItems.{bytes-of_values}
 use Rattle.arrow2_text.proofs.CollectedItems.{made-bytes, no-bitmap, none-null}
 use Rattle.arrow2_text.proofs.utf8.GenericByteArray+Utf8Type+O.from_slice.Goals as goal

@@ -1,5 +1,5 @@
 use Rattle.std.proofs.Common.{◌≡◌, ◌+◌, ◌≤◌, None, length, ap, sym, subst, ◌∙◌}
-use Rattle.arrow2_model.specs.Storage.{items_of}
+use Rattle.arrow2_model.specs.Lists.{items_of}
 use Rattle.arrow2_validity.proofs.ValidItems.{items-none, items-some, part-items_none}
 use Rattle.arrow2_validity.specs.OptionalValidity.{items_or_true, valid_items}
 use Rattle.arrow2_validity.proofs.validity.Validity.append_to.Goals as goal

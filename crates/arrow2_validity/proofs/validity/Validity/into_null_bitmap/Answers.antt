@@ -1,7 +1,6 @@
-use Rattle.std.proofs.Common.{◌≡◌, ◌∙◌, ap, sym}
-use Rattle.std.specs.Prelude.{Some}
+use Rattle.std.proofs.Common.{◌≡◌, ◌∙◌, ap, sym, Some}
 use Rattle.std.proofs.lemmas.Option.{IfSome_then}
-use Rattle.arrow2_model.specs.Storage.{items_of}
+use Rattle.arrow2_model.specs.Lists.{items_of}
 use Rattle.arrow2_validity.specs.OptionalValidity.{items_or_true, valid_items}
 use Rattle.arrow2_validity.proofs.ValidItems.{items-some, left-out}
 use Rattle.arrow2_validity.proofs.validity.Validity.into_null_bitmap.Goals as goal

@@ -1,5 +1,5 @@
 use Rattle.std.proofs.Common.{ap, sym, ◌∙◌}
-use Rattle.arrow2_model.specs.Parts.{falses}
+use Rattle.arrow2_model.specs.Lists.{falses}
 use Rattle.arrow2_validity.proofs.ValidItems.{falses-items_none}
 use Rattle.arrow2_validity.specs.OptionalValidity.{items_or_true, valid_items}
 use Rattle.arrow2_validity.proofs.validity.Validity.null_count.Goals as goal

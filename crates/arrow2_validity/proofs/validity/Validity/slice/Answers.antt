@@ -1,6 +1,5 @@
 use Rattle.std.proofs.Common.{◌≡◌, ◌+◌, ◌≤◌, None, length, ap, sym, subst, ◌∙◌}
-use Rattle.arrow2_model.specs.Parts.{part}
-use Rattle.arrow2_model.specs.Storage.{items_of}
+use Rattle.arrow2_model.specs.Lists.{part, items_of}
 use Rattle.arrow2_model.proofs.Parts.{length-part}
 use Rattle.arrow2_validity.proofs.ValidItems.{items-some, part-items_none}
 use Rattle.arrow2_validity.specs.OptionalValidity.{items_or_true, valid_items}
