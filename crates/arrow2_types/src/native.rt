@@ -69,12 +69,18 @@ pub trait NativeType: Copy + Debug + PartialEq + Default {
     /// Returns the value with these bytes in little-endian order. Requires exactly `SIZE` bytes.
     fn from_le_slice(bytes: &[u8]) -> Self
         requires { length bytes.now ≡ SIZE }
-        ensures { result ≡ of_le bytes.now };
+        ensures { result ≡ of_le bytes.now }
+    {
+        Self::from_le_bytes(Self::bytes_of_slice(bytes))
+    }
 
     /// Returns the value with these bytes in big-endian order. Requires exactly `SIZE` bytes.
     fn from_be_slice(bytes: &[u8]) -> Self
         requires { length bytes.now ≡ SIZE }
-        ensures { result ≡ of_be bytes.now };
+        ensures { result ≡ of_be bytes.now }
+    {
+        Self::from_be_bytes(Self::bytes_of_slice(bytes))
+    }
 
     // A value that was read has the bytes that it was read from.
     ghost le_law: { (bytes : List ℕ) → length bytes ≡ SIZE → ((k : ℕ) → slice_index bytes k < 256)
@@ -127,14 +133,6 @@ impl NativeType for u8 {
     fn bytes_of_slice(bytes: &[u8]) -> [u8; 1] {
         array_of(bytes)
     }
-
-    fn from_le_slice(bytes: &[u8]) -> u8 {
-        u8::from_le_bytes(array_of(bytes))
-    }
-
-    fn from_be_slice(bytes: &[u8]) -> u8 {
-        u8::from_be_bytes(array_of(bytes))
-    }
 }
 
 #[tactic(auto, using(arrow2_model::proofs::Digits::unsigned_bytes))]
@@ -179,14 +177,6 @@ impl NativeType for u16 {
 
     fn bytes_of_slice(bytes: &[u8]) -> [u8; 2] {
         array_of(bytes)
-    }
-
-    fn from_le_slice(bytes: &[u8]) -> u16 {
-        u16::from_le_bytes(array_of(bytes))
-    }
-
-    fn from_be_slice(bytes: &[u8]) -> u16 {
-        u16::from_be_bytes(array_of(bytes))
     }
 }
 
@@ -233,14 +223,6 @@ impl NativeType for u32 {
     fn bytes_of_slice(bytes: &[u8]) -> [u8; 4] {
         array_of(bytes)
     }
-
-    fn from_le_slice(bytes: &[u8]) -> u32 {
-        u32::from_le_bytes(array_of(bytes))
-    }
-
-    fn from_be_slice(bytes: &[u8]) -> u32 {
-        u32::from_be_bytes(array_of(bytes))
-    }
 }
 
 #[tactic(auto, using(arrow2_model::proofs::Digits::unsigned_bytes))]
@@ -285,14 +267,6 @@ impl NativeType for u64 {
 
     fn bytes_of_slice(bytes: &[u8]) -> [u8; 8] {
         array_of(bytes)
-    }
-
-    fn from_le_slice(bytes: &[u8]) -> u64 {
-        u64::from_le_bytes(array_of(bytes))
-    }
-
-    fn from_be_slice(bytes: &[u8]) -> u64 {
-        u64::from_be_bytes(array_of(bytes))
     }
 }
 
@@ -339,14 +313,6 @@ impl NativeType for i8 {
     fn bytes_of_slice(bytes: &[u8]) -> [u8; 1] {
         array_of(bytes)
     }
-
-    fn from_le_slice(bytes: &[u8]) -> i8 {
-        i8::from_le_bytes(array_of(bytes))
-    }
-
-    fn from_be_slice(bytes: &[u8]) -> i8 {
-        i8::from_be_bytes(array_of(bytes))
-    }
 }
 
 #[tactic(auto, using(arrow2_model::proofs::Digits::i16_bytes))]
@@ -391,14 +357,6 @@ impl NativeType for i16 {
 
     fn bytes_of_slice(bytes: &[u8]) -> [u8; 2] {
         array_of(bytes)
-    }
-
-    fn from_le_slice(bytes: &[u8]) -> i16 {
-        i16::from_le_bytes(array_of(bytes))
-    }
-
-    fn from_be_slice(bytes: &[u8]) -> i16 {
-        i16::from_be_bytes(array_of(bytes))
     }
 }
 
@@ -445,14 +403,6 @@ impl NativeType for i32 {
     fn bytes_of_slice(bytes: &[u8]) -> [u8; 4] {
         array_of(bytes)
     }
-
-    fn from_le_slice(bytes: &[u8]) -> i32 {
-        i32::from_le_bytes(array_of(bytes))
-    }
-
-    fn from_be_slice(bytes: &[u8]) -> i32 {
-        i32::from_be_bytes(array_of(bytes))
-    }
 }
 
 #[tactic(auto, using(arrow2_model::proofs::Digits::i64_bytes))]
@@ -498,14 +448,6 @@ impl NativeType for i64 {
     fn bytes_of_slice(bytes: &[u8]) -> [u8; 8] {
         array_of(bytes)
     }
-
-    fn from_le_slice(bytes: &[u8]) -> i64 {
-        i64::from_le_bytes(array_of(bytes))
-    }
-
-    fn from_be_slice(bytes: &[u8]) -> i64 {
-        i64::from_be_bytes(array_of(bytes))
-    }
 }
 
 #[tactic(auto, using(arrow2_model::proofs::Digits::i128_bytes))]
@@ -550,13 +492,5 @@ impl NativeType for i128 {
 
     fn bytes_of_slice(bytes: &[u8]) -> [u8; 16] {
         array_of(bytes)
-    }
-
-    fn from_le_slice(bytes: &[u8]) -> i128 {
-        i128::from_le_bytes(array_of(bytes))
-    }
-
-    fn from_be_slice(bytes: &[u8]) -> i128 {
-        i128::from_be_bytes(array_of(bytes))
     }
 }
