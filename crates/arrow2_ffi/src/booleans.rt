@@ -8,7 +8,7 @@ use crate::bits_input::{Bits, are_inside, hold};
 use crate::bool_words::BoolWords;
 use crate::codes::{ARROW2_LENGTH, ARROW2_OK, ARROW2_RANGE};
 use arrow2_bits::get_bit_from;
-use arrow2_kernels::assign::assign_rows;
+use arrow2_kernels::map::write_rows;
 
 /// Writes the booleans as bits to `out`, from bit 0 on. `out` must have exactly the number of bytes that hold these
 /// bits. Its padding bits become 0.
@@ -47,12 +47,7 @@ fn write_packed(items: &[bool], out: &mut [u8])
     requires exact { HasBytesForBits out.old (length items.now) }
     ensures { Stores out.new (length items.now) items.now }
 {
-    assign_rows(
-        out,
-        items.len(),
-        BoolWords { items },
-        |_own: u64, word| word,
-    );
+    write_rows(out, items.len(), BoolWords { items }, |word| word);
 }
 
 /// Fills `out` with the first bits, as booleans. Requires that these bits are inside their bytes.

@@ -1,7 +1,6 @@
 //! Copies bits and writes the outputs of truth tables, in the caller's memory.
-ghost use Rattle.std.specs.Prelude.{◌≡◌, ◌*◌, ◌<◌, ◌≤◌, ℕ, List, Bool, [], ◌∷◌, take, length};
-ghost use Rattle.arrow2_model.specs.Lists.{bit, bits, IsCanonical};
-ghost use Rattle.arrow2_model.specs.Rows.{AreWordsOf, IsBitwiseOnOwnRows};
+ghost use Rattle.std.specs.Prelude.{◌≡◌, ◌*◌, ◌<◌, ◌≤◌, ℕ, [], ◌∷◌, take, length};
+ghost use Rattle.arrow2_model.specs.Lists.{bit, bits};
 ghost use Rattle.arrow2_model.specs.Tables.{answer, each};
 ghost use Rattle.arrow2_ffi.specs.Ranges.{HasBits, first_bits, HasBytesForBits};
 ghost use Rattle.arrow2_ffi.specs.Writes.{Stores};
@@ -12,7 +11,7 @@ use arrow2_kernels::assign::assign_rows;
 use arrow2_kernels::map::write_rows;
 use arrow2_kernels::simd_assign::{assign_binary, clear_padding};
 use arrow2_kernels::truth_tables::{binary_outputs, quaternary_outputs, ternary_outputs};
-use arrow2_kernels::{OneList, Pair, WordRows, ZipRows};
+use arrow2_kernels::{OneList, Pair, ZipRows};
 
 /// Returns the first `len` bits, word by word. Requires that they are inside their bytes.
 fn words(bits: Bits<'_>, len: usize) -> OneList<BitChunks<'_, u64>>
@@ -23,32 +22,6 @@ fn words(bits: Bits<'_>, len: usize) -> OneList<BitChunks<'_, u64>>
     OneList {
         chunks: BitChunks::new(bits.0, bits.1, len),
     }
-}
-
-/// Replaces each word of the first `len` bits by the result of `op` for the word and its row of words. The clauses
-/// state the new bits only where `op` computes a truth table, bit by bit. Requires that `bytes` has exactly the bytes
-/// that `len` bits need, that each list of the rows has `len` items, and that `op` accepts every word and row.
-fn assign_outputs<S: WordRows<u64>, F: Fn(u64, S::Row) -> u64>(
-    bytes: &mut [u8],
-    len: usize,
-    rows: S,
-    op: F,
-)
-    requires callable { F.IsAlwaysCallable op }
-    requires same_lengths { S.same_lengths rows }
-    requires len { S.len rows ≡ len }
-    requires exact { HasBytesForBits bytes.old len }
-    // `canonical`: there are exactly the bytes that `len` bits need, and no padding bit is set.
-    // `items` holds for each table `t` and all `lists` with these two properties. (1) Bit i of a result of `op` is the
-    // output of `t` for bit i of the word, then bit i of each word of the row. (2) Row j has word j of each list. Then
-    // each of the first `len` bits becomes the output of `t` for this bit, then the items of `lists` at its index.
-    ensures canonical { IsCanonical bytes.new len }
-    ensures items { (t : ℕ) (lists : List (List Bool)) →
-        IsBitwiseOnOwnRows 64 S.words (λ x. x) (F.post op) t →
-        AreWordsOf 64 lists (S.row_at rows) →
-        take len (bits bytes.new) ≡ each t (take len (bits bytes.old) ∷ lists) }
-{
-    assign_rows(bytes, len, rows, op);
 }
 
 /// Returns the first `len` bits of both, word by word. Requires that they are inside their bytes.
@@ -172,7 +145,7 @@ fn copy_words(bits: Bits<'_>, len: usize, out: &mut [u8])
     requires exact { HasBytesForBits out.old len }
     ensures { Stores out.new len (first_bits bits.entry len) }
 {
-    assign_rows(out, len, words(bits, len), |_own: u64, word| word);
+    write_rows(out, len, words(bits, len), |word| word);
 }
 
 /// Overwrites `out` with the first `len` bits of `bytes`, all bytes at once. Requires that they are inside, and that
@@ -198,7 +171,7 @@ pub(crate) fn assign_two(bytes: &mut [u8], len: usize, second: Bits<'_>, t: u8)
     if second.1 % 8 == 0 {
         assign_binary(bytes, &second.0[second.1 / 8..], len, t);
     } else {
-        assign_outputs(
+        assign_rows(
             bytes,
             len,
             words(second, len),
@@ -217,7 +190,7 @@ pub(crate) fn assign_three(bytes: &mut [u8], len: usize, second: Bits<'_>, third
 {
     let left = words(second, len);
     let right = words(third, len);
-    assign_outputs(
+    assign_rows(
         bytes,
         len,
         ZipRows { left, right },
@@ -249,7 +222,7 @@ pub(crate) fn assign_four(
         left,
         right: middle,
     };
-    assign_outputs(
+    assign_rows(
         bytes,
         len,
         ZipRows { left: two, right },

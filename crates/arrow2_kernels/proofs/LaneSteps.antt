@@ -1,14 +1,14 @@
 -- Lanes of bytes bit by bit, and loops that write bytes over others.
-use Rattle.std.proofs.Common.{◌≡◌, ℕ, suc, ◌+◌, ◌-◌, ◌*◌, ◌/◌, ◌%◌, ◌^◌, ◌<◌, ◌≤◌, ◌&&◌, List, [], ◌∷◌, ◌++◌, Bool, true, false, cond, length, get_or, take, drop, set, replicate, refl, ap, sym, subst, ◌∙◌, inl, inr, arith, bit_and, bit_xor, w8, Fits, take-add}
+use Rattle.std.proofs.Common.{◌≡◌, ℕ, suc, ◌+◌, ◌-◌, ◌*◌, ◌/◌, ◌%◌, ◌^◌, ◌<◌, ◌≤◌, ◌&&◌, List, [], ◌∷◌, ◌++◌, Bool, true, false, cond, map, length, get_or, take, drop, set, replicate, refl, ap, sym, subst, ◌∙◌, inl, inr, arith, bit_and, bit_xor, w8, Fits, take-add}
 use mathlib.Core.Bool.{xor}
 use lib.Lanes.{zip2, put_chunk, chunk}
 use Rattle.std.proofs.lemmas.Bool.{cases_lt}
 use borrow.Rule.Slice.PartMut.{put_mid}
 use Rattle.arrow2_kernels.proofs.VectorWrites.{whole_written}
-use Rattle.std.proofs.lemmas.List.{take_at, drop_at, drop_all, append-nil, length-append, length-drop, get_or_append_left, get_or-append_right, take-take, get_or-take, length-take-le, get_or-replicate, get_or_past, take_all}
-use Rattle.std.proofs.lemmas.Simd.{length-put_chunk, get_or-zip2, get_or-chunk, get_or-put_chunk_below, get_or-put_chunk_at, get_or-put_chunk_above}
-use Rattle.arrow2_model.specs.Lists.{bit, bits, unnum, IsCanonical}
-use Rattle.arrow2_model.specs.Tables.{answer, each}
+use Rattle.std.proofs.lemmas.List.{length-map, take_at, drop_at, drop_all, append-nil, length-append, length-drop, get_or_append_left, get_or-append_right, take-take, get_or-take, length-take-le, get_or-replicate, get_or_past, take_all}
+use Rattle.std.proofs.lemmas.Simd.{length-put_chunk, get_or-zip2, get_or-chunk, get_or-put_chunk_below, get_or-put_chunk_at, get_or-put_chunk_above, mask_l-lt}
+use Rattle.arrow2_model.specs.Lists.{bit, bits, num, unnum, IsCanonical}
+use Rattle.arrow2_model.specs.Tables.{answer, each, items_at}
 use Rattle.arrow2_model.proofs.Bytes.{take-bits}
 use Rattle.arrow2_model.proofs.Bits.{bits-append, get_or-unnum, length-bits, get_or-bits_at}
 use Rattle.arrow2_model.proofs.Canonical.{cut_within}
@@ -68,12 +68,13 @@ filled_false n k i h g = ap (λ v. bit v i) (get_or-replicate n k 0 0 h) ∙ (sy
 
 -- ---- a loop that writes byte by byte, or lane by lane
 
--- byte j of the outputs acts by table t on byte j of both lists
-abbrev pub Acts2 : ℕ → List ℕ → List ℕ → List ℕ → ℕ → Type 0
-Acts2 t old other bytes j = (i : ℕ) → i < 8 → bit (get_or bytes j 0) i ≡ answer t (bit (get_or old j 0) i ∷ bit (get_or other j 0) i ∷ [])
+-- bit i of byte j of each list
+abbrev pub bits_of_bytes : List (List ℕ) → ℕ → ℕ → List Bool
+bits_of_bytes lists j i = map (λ bytes. bit (get_or bytes j 0) i) lists
 
-abbrev pub Acts1 : ℕ → List ℕ → List ℕ → ℕ → Type 0
-Acts1 t old bytes j = (i : ℕ) → i < 8 → bit (get_or bytes j 0) i ≡ answer t (bit (get_or old j 0) i ∷ [])
+-- byte j of the outputs acts by table t on byte j of each list
+abbrev pub Acts : ℕ → List (List ℕ) → List ℕ → ℕ → Type 0
+Acts t lists bytes j = (i : ℕ) → i < 8 → bit (get_or bytes j 0) i ≡ answer t (bits_of_bytes lists j i)
 
 -- the first p bytes are written, and the others are as they were
 pub record Written (P : List ℕ → ℕ → Type 0) (old bytes : List ℕ) (p : ℕ) : Type 0 where
@@ -81,11 +82,16 @@ pub record Written (P : List ℕ → ℕ → Type 0) (old bytes : List ℕ) (p :
   pub done : (j : ℕ) → j < p → P bytes j
   pub kept : (j : ℕ) → p ≤ j → get_or bytes j 0 ≡ get_or old j 0
 
+bits_of_chunks : (lists : List (List ℕ)) (p k i : ℕ) → k < 32 → bits_of_bytes (map (chunk p 32) lists) k i ≡ bits_of_bytes lists (p + k) i
+bits_of_chunks [] p k i h = refl
+bits_of_chunks (bytes ∷ lists) p k i h =
+    ap (λ x. bit x i ∷ bits_of_bytes (map (chunk p 32) lists) k i) (get_or-chunk p 32 bytes k 0 h) ∙ ap (λ (bs : List Bool). bit (get_or bytes (p + k) 0) i ∷ bs) (bits_of_chunks lists p k i h)
+
 -- 32 bytes more
-pub lanes_written2 : (t t' p q : ℕ) (old other bytes v : List ℕ) → t' ≡ t → q ≡ p + 32 → q ≤ length old → length old ≤ length other → length v ≡ 32
-    → ((k i : ℕ) → k < 32 → i < 8 → bit (get_or v k 0) i ≡ answer t' (bit (get_or (chunk p 32 bytes) k 0) i ∷ bit (get_or (chunk p 32 other) k 0) i ∷ []))
-    → Written (Acts2 t old other) old bytes p → Written (Acts2 t old other) old (put_chunk p bytes v) q
-lanes_written2 t t' p q old other bytes v same e inside paired lv acts w =
+pub lanes_written : (t t' p q : ℕ) (old bytes v : List ℕ) (others : List (List ℕ)) → t' ≡ t → q ≡ p + 32 → q ≤ length old → length v ≡ 32
+    → ((k i : ℕ) → k < 32 → i < 8 → bit (get_or v k 0) i ≡ answer t' (bits_of_bytes (map (chunk p 32) (bytes ∷ others)) k i))
+    → Written (Acts t (old ∷ others)) old bytes p → Written (Acts t (old ∷ others)) old (put_chunk p bytes v) q
+lanes_written t t' p q old bytes v others same e inside lv acts w =
     let s = w.size in
     record {
       size = length-put_chunk p bytes v ∙ s;
@@ -96,80 +102,53 @@ lanes_written2 t t' p q old other bytes v same e inside paired lv acts w =
             let k< : k < 32 = omega arith in
             let at : p + k ≡ j = omega arith in
             let x : get_or (put_chunk p bytes v) j 0 ≡ get_or v k 0 = ap (λ z. get_or (put_chunk p bytes v) z 0) (sym at) ∙ get_or-put_chunk_at p bytes v k 0 (omega arith) (omega arith) in
-            let a : get_or (chunk p 32 bytes) k 0 ≡ get_or old j 0 = get_or-chunk p 32 bytes k 0 k< ∙ (ap (λ z. get_or bytes z 0) at ∙ w.kept j ge) in
-            let b : get_or (chunk p 32 other) k 0 ≡ get_or other j 0 = get_or-chunk p 32 other k 0 k< ∙ ap (λ z. get_or other z 0) at in
-            ap (λ z. bit z i) x ∙ (acts k i k< g ∙ (ap (λ z. answer z (bit (get_or (chunk p 32 bytes) k 0) i ∷ bit (get_or (chunk p 32 other) k 0) i ∷ [])) same ∙ (ap (λ z. answer t (bit z i ∷ bit (get_or (chunk p 32 other) k 0) i ∷ [])) a ∙ ap (λ z. answer t (bit (get_or old j 0) i ∷ bit z i ∷ [])) b)))
+            ap (λ z. bit z i) x ∙ (acts k i k< g ∙ (ap (answer t') (bits_of_chunks (bytes ∷ others) p k i k<)
+            ∙ (ap (λ z. answer t' (bits_of_bytes (bytes ∷ others) z i)) at ∙ (ap (λ z. answer t' (bit z i ∷ bits_of_bytes others j i)) (w.kept j ge) ∙ ap (λ z. answer z (bits_of_bytes (old ∷ others) j i)) same))))
       ];
       kept = λ j h. get_or-put_chunk_above p bytes v j 0 (omega arith) ∙ w.kept j (omega arith);
     }
 
-pub lanes_written1 : (t t' p q : ℕ) (old bytes v : List ℕ) → t' ≡ t → q ≡ p + 32 → q ≤ length old → length v ≡ 32
-    → ((k i : ℕ) → k < 32 → i < 8 → bit (get_or v k 0) i ≡ answer t' (bit (get_or (chunk p 32 bytes) k 0) i ∷ []))
-    → Written (Acts1 t old) old bytes p → Written (Acts1 t old) old (put_chunk p bytes v) q
-lanes_written1 t t' p q old bytes v same e inside lv acts w =
-    let s = w.size in
-    record {
-      size = length-put_chunk p bytes v ∙ s;
-      done = λ j h i g. elim (cases_lt j p) [
-        | inl lt ↦ ap (λ x. bit x i) (get_or-put_chunk_below p bytes v j 0 lt) ∙ w.done j lt i g
-        | inr ge ↦
-            let k : ℕ = j - p in
-            let k< : k < 32 = omega arith in
-            let at : p + k ≡ j = omega arith in
-            let x : get_or (put_chunk p bytes v) j 0 ≡ get_or v k 0 = ap (λ z. get_or (put_chunk p bytes v) z 0) (sym at) ∙ get_or-put_chunk_at p bytes v k 0 (omega arith) (omega arith) in
-            let a : get_or (chunk p 32 bytes) k 0 ≡ get_or old j 0 = get_or-chunk p 32 bytes k 0 k< ∙ (ap (λ z. get_or bytes z 0) at ∙ w.kept j ge) in
-            ap (λ z. bit z i) x ∙ (acts k i k< g ∙ (ap (λ z. answer z (bit (get_or (chunk p 32 bytes) k 0) i ∷ [])) same ∙ ap (λ z. answer t (bit z i ∷ [])) a))
-      ];
-      kept = λ j h. get_or-put_chunk_above p bytes v j 0 (omega arith) ∙ w.kept j (omega arith);
-    }
+-- each list has at least n bytes
+abbrev pub HaveBytes : ℕ → List (List ℕ) → Type 0
+HaveBytes n [] = Unit {0}
+HaveBytes n (bytes ∷ lists) = (n ≤ length bytes) × HaveBytes n lists
+
+items_of_bytes : (n : ℕ) (lists : List (List ℕ)) (k : ℕ) → HaveBytes n lists → k < 8 * n → items_at (map (λ bytes. take (8 * n) (bits bytes)) lists) k ≡ bits_of_bytes lists (k / 8) (k % 8)
+items_of_bytes n [] k have h = refl
+items_of_bytes n (bytes ∷ lists) k have h =
+    ap (λ b. b ∷ items_at (map (λ (bs : List ℕ). take (8 * n) (bits bs)) lists) k) (get_or-take (8 * n) (bits bytes) k false h ∙ get_or-bits_at bytes k false (omega (arith, have.0)))
+    ∙ ap (λ (bs : List Bool). bit (get_or bytes (k / 8) 0) (k % 8) ∷ bs) (items_of_bytes n lists k have.1 h)
 
 -- all bytes were written
-pub all_written2 : (t : ℕ) (old other bytes : List ℕ) → length old ≤ length other → Written (Acts2 t old other) old bytes (length old) → bits bytes ≡ each t (bits old ∷ take (8 * length old) (bits other) ∷ [])
-all_written2 t old other bytes paired w =
+pub all_written : (t : ℕ) (old bytes : List ℕ) (others : List (List ℕ)) → HaveBytes (length old) others → Written (Acts t (old ∷ others)) old bytes (length old)
+    → bits bytes ≡ each t (bits old ∷ map (λ other. take (8 * length old) (bits other)) others)
+all_written t old bytes others have w =
     let l = length-bits bytes in
     let o = length-bits old in
-    let b = length-bits other in
-    each_from t (bits old ∷ take (8 * length old) (bits other) ∷ []) (bits bytes) (omega (arith, l, o, w.size))
+    let cut : List (List Bool) = map (λ (other : List ℕ). take (8 * length old) (bits other)) others in
+    each_from t (bits old ∷ cut) (bits bytes) (omega (arith, l, o, w.size))
     (λ k h.
     let k< : k < 8 * length old = omega (arith, o) in
     get_or-bits_at bytes k false (omega (arith, w.size)) ∙ (w.done (k / 8) (omega arith) (k % 8) (omega arith)
-    ∙ (ap (λ z. answer t (z ∷ bit (get_or other (k / 8) 0) (k % 8) ∷ [])) (sym (get_or-bits_at old k false k<))
-    ∙ ap (λ z. answer t (get_or (bits old) k false ∷ z ∷ [])) (sym (get_or-take (8 * length old) (bits other) k false k< ∙ get_or-bits_at other k false (omega arith))))))
-
-pub all_written1 : (t : ℕ) (old bytes : List ℕ) → Written (Acts1 t old) old bytes (length old) → bits bytes ≡ each t (bits old ∷ [])
-all_written1 t old bytes w =
-    let l = length-bits bytes in
-    let o = length-bits old in
-    each_from t (bits old ∷ []) (bits bytes) (omega (arith, l, o, w.size))
-    (λ k h.
-    let k< : k < 8 * length old = omega (arith, o) in
-    get_or-bits_at bytes k false (omega (arith, w.size)) ∙ (w.done (k / 8) (omega arith) (k % 8) (omega arith)
-    ∙ ap (λ z. answer t (z ∷ [])) (sym (get_or-bits_at old k false k<))))
+    ∙ (ap (λ z. answer t (z ∷ bits_of_bytes others (k / 8) (k % 8))) (sym (get_or-bits_at old k false k<))
+    ∙ ap (λ (bs : List Bool). answer t (get_or (bits old) k false ∷ bs)) (sym (items_of_bytes (length old) others k have k<)))))
 
 -- ---- the first items of the outputs
 
-pub take-each2 : (t n : ℕ) (xs ys zs : List Bool) → n ≤ length xs → n ≤ length ys → take n zs ≡ take n ys → take n (each t (xs ∷ zs ∷ [])) ≡ each t (take n xs ∷ take n ys ∷ [])
-take-each2 t n xs ys zs h g same =
-    let e = length-each t (xs ∷ zs ∷ []) in
-    let a = length-take-le n (each t (xs ∷ zs ∷ [])) (omega (arith, e)) in
-    let b = length-take-le n xs h in
-    each_from t (take n xs ∷ take n ys ∷ []) (take n (each t (xs ∷ zs ∷ []))) (omega (arith, a, b))
-    (λ k k<.
-    let k<n : k < n = omega (arith, b) in
-    get_or-take n (each t (xs ∷ zs ∷ [])) k false k<n ∙ (get_or-each t (xs ∷ zs ∷ []) k (omega arith)
-    ∙ (ap (λ z. answer t (z ∷ get_or zs k false ∷ [])) (sym (get_or-take n xs k false k<n))
-    ∙ ap (λ z. answer t (get_or (take n xs) k false ∷ z ∷ [])) (sym (get_or-take n zs k false k<n) ∙ ap (λ (l : List Bool). get_or l k false) same))))
+items-take : (n : ℕ) (lists : List (List Bool)) (k : ℕ) → k < n → items_at (map (take n) lists) k ≡ items_at lists k
+items-take n [] k h = refl
+items-take n (xs ∷ lists) k h =
+    ap (λ b. b ∷ items_at (map (take n) lists) k) (get_or-take n xs k false h) ∙ ap (λ (bs : List Bool). get_or xs k false ∷ bs) (items-take n lists k h)
 
-pub take-each1 : (t n : ℕ) (xs : List Bool) → n ≤ length xs → take n (each t (xs ∷ [])) ≡ each t (take n xs ∷ [])
-take-each1 t n xs h =
-    let e = length-each t (xs ∷ []) in
-    let a = length-take-le n (each t (xs ∷ [])) (omega (arith, e)) in
+pub take-each : (t n : ℕ) (xs : List Bool) (lists : List (List Bool)) → n ≤ length xs → take n (each t (xs ∷ lists)) ≡ each t (take n xs ∷ map (take n) lists)
+take-each t n xs lists h =
+    let e = length-each t (xs ∷ lists) in
+    let a = length-take-le n (each t (xs ∷ lists)) (omega (arith, e)) in
     let b = length-take-le n xs h in
-    each_from t (take n xs ∷ []) (take n (each t (xs ∷ []))) (omega (arith, a, b))
+    each_from t (map (take n) (xs ∷ lists)) (take n (each t (xs ∷ lists))) (omega (arith, a, b))
     (λ k k<.
     let k<n : k < n = omega (arith, b) in
-    get_or-take n (each t (xs ∷ [])) k false k<n ∙ (get_or-each t (xs ∷ []) k (omega arith)
-    ∙ ap (λ z. answer t (z ∷ [])) (sym (get_or-take n xs k false k<n))))
+    get_or-take n (each t (xs ∷ lists)) k false k<n ∙ (get_or-each t (xs ∷ lists) k (omega arith) ∙ ap (answer t) (sym (items-take n (xs ∷ lists) k k<n))))
 
 -- ---- padding bits
 
@@ -201,27 +180,15 @@ front_bits bytes front n m h e is =
 low_table : (w t i : ℕ) → i < w → bit (t % 2 ^ w) i ≡ bit t i
 low_table w t i h = sym (get_or-unnum w (t % 2 ^ w) i false h) ∙ (ap (λ (b : List Bool). get_or b i false) (unnum-mod w t) ∙ get_or-unnum w t i false h)
 
--- a table of two inputs is the one of its four lowest bits
-pub same_table : (t u : ℕ) (xs ys : List Bool) → t % 16 ≡ u → each u (xs ∷ ys ∷ []) ≡ each t (xs ∷ ys ∷ [])
-same_table t u xs ys e =
-    each_from t (xs ∷ ys ∷ []) (each u (xs ∷ ys ∷ [])) (length-each u (xs ∷ ys ∷ []))
-    (λ k h. get_or-each u (xs ∷ ys ∷ []) k h ∙ (ap (λ z. answer z (get_or xs k false ∷ get_or ys k false ∷ [])) (sym e) ∙ same (get_or xs k false) (get_or ys k false)))
-  where
-    same : (a b : Bool) → answer (t % 16) (a ∷ b ∷ []) ≡ answer t (a ∷ b ∷ [])
-    same true true = low_table 4 t 3 (omega arith)
-    same true false = low_table 4 t 1 (omega arith)
-    same false true = low_table 4 t 2 (omega arith)
-    same false false = low_table 4 t 0 (omega arith)
-
--- a table of one input is the one of its two lowest bits
-pub same_unary_table : (t u : ℕ) (xs : List Bool) → t % 4 ≡ u → each u (xs ∷ []) ≡ each t (xs ∷ [])
-same_unary_table t u xs e =
-    each_from t (xs ∷ []) (each u (xs ∷ [])) (length-each u (xs ∷ []))
-    (λ k h. get_or-each u (xs ∷ []) k h ∙ (ap (λ z. answer z (get_or xs k false ∷ [])) (sym e) ∙ same (get_or xs k false)))
-  where
-    same : (a : Bool) → answer (t % 4) (a ∷ []) ≡ answer t (a ∷ [])
-    same true = low_table 2 t 1 (omega arith)
-    same false = low_table 2 t 0 (omega arith)
+-- a table of n inputs is the one of its 2 ^ n lowest bits
+pub same_table : (t u : ℕ) (lists : List (List Bool)) → t % 2 ^ (2 ^ length lists) ≡ u → each u lists ≡ each t lists
+same_table t u lists e =
+    each_from t lists (each u lists) (length-each u lists)
+    (λ k h.
+    let inputs : List Bool = items_at lists k in
+    let small = mask_l-lt inputs in
+    let count = length-map lists (λ items. get_or items k false) in
+    get_or-each u lists k h ∙ (ap (λ z. answer z inputs) (sym e) ∙ low_table (2 ^ length lists) t (num inputs) (subst (λ n. num inputs < 2 ^ n) count small)))
 
 -- ---- outputs that are appended
 
@@ -312,6 +279,6 @@ first_results t n m left right bytes h g e is =
     let b = length-bits (take m right) in
     let d = length-take-le m left (omega (arith, e)) in
     let f = length-take-le m right (omega (arith, e)) in
-    ap (take n) is ∙ (take-each2 t n (bits (take m left)) (bits (take m right)) (bits (take m right)) (omega (arith, a, d, e)) (omega (arith, b, f, e)) refl
+    ap (take n) is ∙ (take-each t n (bits (take m left)) (bits (take m right) ∷ []) (omega (arith, a, d, e))
     ∙ (ap (λ z. each t (z ∷ take n (bits (take m right)) ∷ [])) (front_bits left (take m left) n m h e refl)
     ∙ ap (λ z. each t (take n (bits left) ∷ z ∷ [])) (front_bits right (take m right) n m g e refl)))

@@ -1,11 +1,14 @@
 -- Steps over rows of words.
 use Rattle.std.proofs.Common.{◌≡◌, ℕ, zero, suc, ◌+◌, ◌-◌, ◌*◌, ◌/◌, ◌^◌, ◌<◌, List, [], ◌∷◌, ◌++◌, Bool, true, false, Option, None, Some, take, drop, replicate, length, get_or, refl, ap, sym, ◌∙◌, subst, arith, pow_pos, length-append, drop_at, drop-drop, take_all, mul-suc}
 use Rattle.arrow2_model.specs.Lists.{num, unnum, full_words, rest, WordCursor, GivesWord, word}
-use Rattle.arrow2_model.specs.Kernels.{words_at, AreWords}
+use Rattle.arrow2_model.specs.Kernels.{words_at, own_kernel, AreWords}
+use Rattle.arrow2_model.specs.Tables.{each}
 use Rattle.arrow2_model.proofs.Bits.{length-unnum}
 use Rattle.arrow2_model.proofs.Numbers.{num-unnum, num-part-lt}
 use Rattle.arrow2_model.proofs.Words.{length-rest, rest-none, rest-whole, length-full_words, get_or-full_words}
-use Rattle.arrow2_model.specs.Rows.{AreRowsOf, GivesRow}
+use Rattle.arrow2_model.proofs.Kernels.{table_word}
+use Rattle.arrow2_model.proofs.RowKernels.{rows_table, acts_paired}
+use Rattle.arrow2_model.specs.Rows.{AreRowsOf, AreWordsOf, ComputesOwnRows, GivesRow, IsBitwiseOnOwnRows}
 
 -- false after the items changes no number
 pub num-filled : (items : List Bool) (m : ℕ) → num (items ++ replicate m false) ≡ num items
@@ -22,6 +25,12 @@ one_word w x h (suc k) = pow_pos w
 -- the rows of a list itself and of those paired with it
 pub paired_own : (w n : ℕ) (own : List Bool) (lists : List (List Bool)) (row : ℕ → List ℕ) → length own ≡ n → ((j : ℕ) → row j ≡ words_at w lists j) → AreRowsOf w (own ∷ lists) (λ j. word w own j ∷ row j) n
 paired_own w n own lists row l are = (l, λ j. ap (λ r. word w own j ∷ r) (are j))
+
+-- the outputs of a table, where the results of each function of the words are known
+pub own_outputs : {X R : Type 0} (w n t : ℕ) (numbers : R → List ℕ) (number : X → ℕ) (gives : X → R → X → Type 0) (own new : List Bool) (lists : List (List Bool)) (row : ℕ → List ℕ) → 0 < w → length own ≡ n
+    → ((f : List ℕ → ℕ) → ComputesOwnRows w numbers number gives f → new ≡ own_kernel w f own row n) → IsBitwiseOnOwnRows w numbers number gives t → AreWordsOf w lists row → new ≡ each t (own ∷ lists)
+own_outputs w n t numbers number gives own new lists row p l results acts are =
+    results (table_word w t) (acts_paired w t numbers number gives acts) ∙ rows_table w n t (own ∷ lists) (λ j. word w own j ∷ row j) p (paired_own w n own lists row l are)
 
 -- word j of a list after its first word
 word_following : (w x : ℕ) (items left : List Bool) (j : ℕ) → items ≡ unnum w x ++ left → word w left j ≡ word w items (j + 1)

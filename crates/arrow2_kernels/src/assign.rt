@@ -1,8 +1,9 @@
 //! Replacing the words of bytes by the results of a word function.
-ghost use Rattle.std.specs.Prelude.{◌≡◌, ◌+◌, ◌-◌, ◌*◌, ◌/◌, ◌<◌, ◌≤◌, ◌^◌, ◌⊎◌, ℕ, List, ◌∷◌, false, take, length, slice_index_or};
+ghost use Rattle.std.specs.Prelude.{◌≡◌, ◌+◌, ◌-◌, ◌*◌, ◌/◌, ◌<◌, ◌≤◌, ◌^◌, ◌⊎◌, ℕ, List, ◌∷◌, Bool, false, take, length, slice_index_or};
 ghost use Rattle.arrow2_model.specs.Lists.{bit, bits, IsCanonical, word};
 ghost use Rattle.arrow2_model.specs.Kernels.{own_kernel};
-ghost use Rattle.arrow2_model.specs.Rows.{ComputesOwnRows};
+ghost use Rattle.arrow2_model.specs.Rows.{AreWordsOf, ComputesOwnRows, IsBitwiseOnOwnRows};
+ghost use Rattle.arrow2_model.specs.Tables.{each};
 ghost use Rattle.arrow2_kernels.specs.WordResults.{AreJoinedResults, MayReturnOwn};
 
 use crate::rows::WordRows;
@@ -31,6 +32,11 @@ pub fn assign_rows<T: BitChunk, S: WordRows<T>, F: Fn(T, S::Row) -> T>(
         ComputesOwnRows T.WIDTH S.words T.number (F.post op) f →
         take len (bits bytes.new)
         ≡ own_kernel T.WIDTH f (take len (bits bytes.old)) (S.row_at rows) len }
+    // If `op` computes each bit by a truth table `t`, and `lists` are lists whose words are those of the rows: the
+    // items are the outputs of `t` for the old items and the items of `lists`.
+    ensures table { (t : ℕ) (lists : List (List Bool)) →
+        IsBitwiseOnOwnRows T.WIDTH S.words T.number (F.post op) t → AreWordsOf T.WIDTH lists (S.row_at rows) →
+        take len (bits bytes.new) ≡ each t (take len (bits bytes.old) ∷ lists) }
     // For any `op`: the word at each index is one that `op` may return for a word and a row with the words at this
     // index.
     ensures results { AreJoinedResults T.WIDTH len (λ j. MayReturnOwn T.WIDTH S.words T.number (F.post op)

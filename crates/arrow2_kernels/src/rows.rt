@@ -130,8 +130,8 @@ impl<B: BitChunk, L: WordRows<B>, R: WordRows<B>> WordRows<B> for ZipRows<L, R> 
     }
 }
 
-/// Rows of two lists, read by words of 64 bits: a type without type parameters. Two pairs, zipped, give the rows of
-/// four lists.
+/// Rows of two lists, read by words of 64 bits. Two pairs, zipped, give the rows of four lists. The type has no type
+/// parameters, since the kit rejects a `ZipRows` of two `ZipRows`.
 #[derive(Drop)]
 pub struct Pair<'a> {
     /// The lists.

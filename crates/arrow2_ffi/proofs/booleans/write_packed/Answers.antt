@@ -9,7 +9,7 @@ returns c =
     let items : List Bool = c.args.items.now in
     record {
       items =
-          c.assign_rows.ensures.items (λ xs. slice_index xs 1) (λ x row r fits words post. search rules)
+          c.write_rows.ensures.items (λ xs. slice_index xs 0) (λ row r words post. search rules)
           ∙ sym (joined_from 64 (word 64 items) (length items) items (omega arith) refl (λ k h. sym (bit-word 64 items k (omega arith))));
-      canonical = c.assign_rows.ensures.canonical;
+      canonical = c.write_rows.ensures.canonical;
     }

@@ -9,8 +9,8 @@ returns c =
     let items : List Bool = c.words.result.chunks.items in
     record {
       items =
-          c.assign_rows.ensures.items (λ xs. slice_index xs 1) (λ x row r fits words post. search rules)
+          c.write_rows.ensures.items (λ xs. slice_index xs 0) (λ row r words post. search rules)
           ∙ (sym (joined_from 64 (word 64 items) c.args.len items (omega arith) c.words.ensures.count (λ k h. sym (bit-word 64 items k (omega arith))))
           ∙ c.words.ensures.items);
-      canonical = c.assign_rows.ensures.canonical;
+      canonical = c.write_rows.ensures.canonical;
     }

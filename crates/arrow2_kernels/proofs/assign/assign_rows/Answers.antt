@@ -1,10 +1,12 @@
-use Rattle.std.proofs.Common.{◌≡◌, ◌⊎◌, inl, inr, ℕ, List, Bool, ◌+◌, ◌-◌, ◌*◌, ◌/◌, ◌<◌, ◌≤◌, length, take, ap, sym, subst, refl, ◌∙◌, arith, rules}
+use Rattle.std.proofs.Common.{◌≡◌, ◌⊎◌, inl, inr, ℕ, List, Bool, ◌+◌, ◌-◌, ◌*◌, ◌/◌, ◌<◌, ◌≤◌, length, take, ap, sym, subst, refl, ◌∙◌, arith, rules, length-take-le}
 use Rattle.arrow2_model.specs.Lists.{bits, word}
+use Rattle.arrow2_model.proofs.Bits.{length-bits}
 use Rattle.arrow2_model.proofs.Numbers.{num-part-lt}
 use Rattle.std.proofs.Math.Nat.{zero-div, zero-mod}
 use Rattle.arrow2_kernels.specs.WordResults.{MayReturnOwn}
 use Rattle.arrow2_kernels.proofs.WordResults.{computed_items}
 use Rattle.arrow2_kernels.proofs.AssignSteps.{Kept, DoneBy, position_now, position_next, own_word, own_rest, kept_word, one_done, last_done, all_joined, rest_canonical, whole_canonical}
+use Rattle.arrow2_kernels.proofs.RowSteps.{own_outputs}
 use Rattle.arrow2_kernels.proofs.assign.assign_rows.Given as given
 use Rattle.arrow2_kernels.proofs.assign.assign_rows.Goals as goal
 
@@ -130,3 +132,18 @@ returns-clause-items g c f computes =
     let own : List Bool = take c.args.len (bits c.args.bytes.now) in
     let bounds = g.met.T.BitChunk.width_bounds in
     computed_items w c.args.len g.S.WordRows.words g.T.BitChunk.number (given.F-post g c.args.op) (word w own) (g.S.WordRows.row_at c.args.rows) f (take c.args.len (bits c.loop-row.bytes)) (omega (arith, bounds)) (λ j. num-part-lt w own (w * j)) computes (returns-clause-results g c)
+
+length-own : (n : ℕ) (bytes : List ℕ) → length bytes ≡ (n + 7) / 8 → length (take n (bits bytes)) ≡ n
+length-own n bytes exact = length-take-le n (bits bytes) (omega (arith, length-bits bytes, exact))
+
+pub returns-then-left-gt0-clause-table : goal.returns-then-left-gt0-clause-table
+returns-then-left-gt0-clause-table g c t lists acts are =
+    let n : ℕ = c.args.len in
+    own_outputs g.T.BitChunk.WIDTH n t g.S.WordRows.words g.T.BitChunk.number (given.F-post g c.args.op) (take n (bits c.args.bytes.now)) (take n (bits c.put_word-then-left-gt0.new.bytes)) lists (g.S.WordRows.row_at c.args.rows)
+    (omega (arith, g.met.T.BitChunk.width_bounds)) (length-own n c.args.bytes.now c.requires.exact) (returns-then-left-gt0-clause-items g c) acts are
+
+pub returns-clause-table : goal.returns-clause-table
+returns-clause-table g c t lists acts are =
+    let n : ℕ = c.args.len in
+    own_outputs g.T.BitChunk.WIDTH n t g.S.WordRows.words g.T.BitChunk.number (given.F-post g c.args.op) (take n (bits c.args.bytes.now)) (take n (bits c.loop-row.bytes)) lists (g.S.WordRows.row_at c.args.rows)
+    (omega (arith, g.met.T.BitChunk.width_bounds)) (length-own n c.args.bytes.now c.requires.exact) (returns-clause-items g c) acts are

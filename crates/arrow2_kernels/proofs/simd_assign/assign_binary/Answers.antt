@@ -1,7 +1,8 @@
-use Rattle.std.proofs.Common.{◌∙◌, ◌*◌, ap, take, length, arith, take-take}
+use Rattle.std.proofs.Common.{◌∙◌, ◌*◌, List, Bool, [], ◌∷◌, ap, take, length, arith, take-take}
 use Rattle.arrow2_model.specs.Lists.{bits}
+use Rattle.arrow2_model.specs.Tables.{each}
 use Rattle.arrow2_model.proofs.Bits.{length-bits}
-use Rattle.arrow2_kernels.proofs.LaneSteps.{take-each2}
+use Rattle.arrow2_kernels.proofs.LaneSteps.{take-each}
 use Rattle.arrow2_kernels.proofs.simd_assign.assign_binary.Goals as goal
 
 pub returns-clause-items : goal.returns-clause-items
@@ -10,7 +11,6 @@ returns-clause-items c =
     let other = c.args.other.now in
     let n = c.args.len in
     let m = length-bits old in
-    let o = length-bits other in
     let shorter = take-take n (8 * length old) (bits other) (omega (arith, c.requires.exact)) in
     c.clear_padding.ensures.items ∙ (ap (take n) c.write_by_table.ensures
-    ∙ take-each2 c.args.t n (bits old) (bits other) (take (8 * length old) (bits other)) (omega (arith, m, c.requires.exact)) (omega (arith, o, c.requires.inside)) shorter)
+    ∙ (take-each c.args.t n (bits old) (take (8 * length old) (bits other) ∷ []) (omega (arith, m, c.requires.exact)) ∙ ap (λ (items : List Bool). each c.args.t (take n (bits old) ∷ items ∷ [])) shorter))

@@ -1,5 +1,5 @@
-use Rattle.std.proofs.Common.{◌+◌, ◌*◌, subst, arith}
-use Rattle.arrow2_kernels.proofs.LaneSteps.{lanes_written1, all_written1, Written, Acts1}
+use Rattle.std.proofs.Common.{◌+◌, ◌*◌, [], ◌∷◌, subst, arith}
+use Rattle.arrow2_kernels.proofs.LaneSteps.{lanes_written, all_written, Written, Acts}
 use Rattle.arrow2_kernels.proofs.simd_assign.write_unary.Goals as goal
 
 pub loop-k-preserved : goal.loop-k-preserved
@@ -7,10 +7,10 @@ loop-k-preserved c =
     let t = c.args.t in
     let old = c.args.bytes.now in
     let k = c.loop-k.k in
-    lanes_written1 t c.from.result (32 * k) (32 * (k + 1)) old c.loop-k.bytes c.unary_lanes.result c.from.ensures (omega arith) (omega arith) c.unary_lanes.ensures.long
+    lanes_written t c.from.result (32 * k) (32 * (k + 1)) old c.loop-k.bytes c.unary_lanes.result [] c.from.ensures (omega arith) (omega arith) c.unary_lanes.ensures.long
     c.unary_lanes.ensures.results c.loop-k.invariant
 
 pub returns : goal.returns
 returns c =
-    all_written1 c.args.t c.args.bytes.now c.loop-at.bytes
-    (subst (λ n. Written (Acts1 c.args.t c.args.bytes.now) c.args.bytes.now c.loop-at.bytes n) (omega arith) c.loop-at.invariant)
+    all_written c.args.t c.args.bytes.now c.loop-at.bytes [] tt
+    (subst (λ n. Written (Acts c.args.t (c.args.bytes.now ∷ [])) c.args.bytes.now c.loop-at.bytes n) (omega arith) c.loop-at.invariant)

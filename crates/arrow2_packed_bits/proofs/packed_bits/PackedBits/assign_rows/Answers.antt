@@ -2,8 +2,7 @@ use Rattle.std.proofs.Common.{◌≡◌, ◌∙◌, ℕ, List, ◌∷◌, Bool, 
 use Rattle.arrow2_model.specs.Lists.{bits, word}
 use Rattle.arrow2_model.specs.Kernels.{bits_of_words, kernel}
 use Rattle.arrow2_model.specs.Tables.{each}
-use Rattle.arrow2_model.proofs.Kernels.{table_word}
-use Rattle.arrow2_model.proofs.RowKernels.{rows_kernel, rows_table, acts_paired}
+use Rattle.arrow2_model.proofs.RowKernels.{rows_kernel}
 use Rattle.arrow2_kernels.specs.WordResults.{MayReturnOwn}
 use Rattle.arrow2_kernels.proofs.RowSteps.{paired_own}
 use Rattle.arrow2_kernels.proofs.VectorWrites.{whole_written}
@@ -28,17 +27,12 @@ returns-clause-kernel g c f lists is are =
 
 pub returns-clause-table : goal.returns-clause-table
 returns-clause-table g c t lists acts are =
-    let w : ℕ = g.T.BitChunk.WIDTH in
     let b = c.self.inside in
     let n : ℕ = b.length in
-    let own : List Bool = take n (bits b.bytes.items) in
-    let row : ℕ → List ℕ = g.S.WordRows.row_at c.args.rows in
     let whole = whole_written b.bytes.items c.assign_rows.new.bytes b.bytes.len b.bytes.ok.0 (omega (arith, c.assign_rows.auto.bytes, c.as_mut_slice.ensures.len, b.bytes.ok.0)) in
     ap (λ (bytes : List ℕ). take n (bits bytes)) whole
-    ∙ (c.assign_rows.ensures.items (table_word w t) (acts_paired w t g.S.WordRows.words g.T.BitChunk.number _ acts)
-    ∙ (ap (λ (bytes : List ℕ). bits_of_words w (λ j. table_word w t (word w (take n (bits bytes)) j ∷ row j)) n) c.as_mut_slice.ensures.value
-    ∙ (rows_table w n t (own ∷ lists) (λ j. word w own j ∷ row j) (omega (arith, g.met.T.BitChunk.width_bounds)) (paired_own w n own lists row (length_items b.bytes.items n c.self.invariant) are)
-    ∙ ap (λ m. each t (m.items ∷ lists)) c.self.view_is)))
+    ∙ (c.assign_rows.ensures.table t lists acts are
+    ∙ (ap (λ (bytes : List ℕ). each t (take n (bits bytes) ∷ lists)) c.as_mut_slice.ensures.value ∙ ap (λ m. each t (m.items ∷ lists)) c.self.view_is))
 
 pub returns-clause-results : goal.returns-clause-results
 returns-clause-results g c =
