@@ -1,10 +1,10 @@
 //! An array of booleans that grows.
-ghost use Rattle.std.specs.Prelude.{◌≡◌, ◌+◌, ◌<◌, ◌≤◌, ◌^◌, ◌↔◌, ◌++◌, [], ◌∷◌, None, Some, length, map, replicate, IfOk, IsErrOf, IsOk, IfNone, IsNone, IfSome, IsTrue, MatchOption, OnOk};
+ghost use Rattle.std.specs.Prelude.{◌≡◌, ◌+◌, ◌<◌, ◌≤◌, ◌↔◌, ◌++◌, [], ◌∷◌, None, Some, length, map, replicate, IfOk, IsErrOf, IsOk, IfNone, IsNone, IfSome, IsTrue, MatchOption};
 ghost use Rattle.std.specs.Iterator.{IsFinite, IsFiniteIterable};
 ghost use Rattle.std.specs.Iterator.Runs.{WholeRun};
 ghost use Rattle.arrow2_types.specs.Failures.{error_of, OnlyOutOfMemory, OnlyOverflowOrOutOfMemory};
 ghost use Rattle.arrow2_model.specs.Lists.{part, items_of};
-ghost use Rattle.arrow2_packed_bits.specs.Growth.{Appends};
+ghost use Rattle.arrow2_packed_bits.specs.Growth.{Appends, Reserves};
 ghost use Rattle.arrow2_bitmap.specs.Iterators.{MayYieldTooMany};
 ghost use Rattle.arrow2_bitmap.specs.PackedBitmaps.{IsPacked};
 ghost use Rattle.arrow2_array.specs.Growth.{AppendsBooleans};
@@ -152,17 +152,11 @@ impl MutableBooleanArray {
     /// `Overflow` exactly where the length plus `additional` would pass `usize::MAX`, else only `OutOfMemory`. After
     /// either error, the array holds the items that it held.
     pub fn reserve(&mut self, additional: usize) -> Result<()>
-        // The items stay; after `Ok`, `additional` more fit.
-        ensures items { self.new.items ≡ self.old.items }
-        ensures ok { OnOk result (length self.old.items + additional ≤ self.new.capacity) }
-        // When each error comes, and when none does.
-        ensures overflow { IsErrOf result Error.Overflow ↔
-            (2 ^ 64 ≤ length self.old.items + additional) }
-        ensures only { OnlyOverflowOrOutOfMemory result }
-        ensures succeeds { length self.old.items + additional ≤ self.old.capacity → IsOk result }
-        // The capacity never falls.
-        ensures capacity { self.old.capacity ≤ self.new.capacity }
+        ensures { Reserves error_of result self.old.items self.new.items additional
+            self.old.capacity self.new.capacity }
     {
+        // For the proof alone: reading the capacity brings the fact that the items are within it.
+        let _ = self.capacity();
         self.validity.reserve(additional)?;
         self.values.reserve(additional)?;
         Ok(())

@@ -1,5 +1,7 @@
 -- Bitmaps that are stored in their canonical bytes, from bit 0 on.
-use Rattle.std.specs.Prelude.{◌≡◌, List, Bool, length}
+use Rattle.std.specs.Prelude.{◌≡◌, ℕ, List, Bool, length, IfOk, Result}
+use Rattle.arrow2_types.specs.declared.error.Error.{Error}
+use Rattle.arrow2_types.specs.Failures.{OnlyOutOfMemory}
 use Rattle.arrow2_model.specs.Lists.{canonical_bytes, BitmapStorage, items_of}
 
 -- items in their canonical bytes, from bit 0 on: no byte is spare, and no bit after the last item is set
@@ -9,3 +11,11 @@ packed_storage items = record { bytes = canonical_bytes items; offset = 0; len =
 -- a bitmap is stored as `packed_storage` of its items
 abbrev pub IsPacked : BitmapStorage → Type 0
 IsPacked b = b ≡ packed_storage (items_of b)
+
+-- a call returns a new bitmap of `count` items
+pub record MakesPacked (r : Result BitmapStorage Error) (count : ℕ) : Type 0 where
+  pub len : IfOk r (λ b. length (items_of b) ≡ count)
+  -- in their canonical bytes, from bit 0 on
+  pub storage : IfOk r IsPacked
+  -- or the only error, out of memory
+  pub only : OnlyOutOfMemory r

@@ -5,7 +5,7 @@ ghost use Rattle.arrow2_model.specs.Lists.{bitmap_word, items_of};
 ghost use Rattle.arrow2_model.specs.Tables.{each, IsBitwiseUnary, IsBitwiseBinary};
 ghost use Rattle.arrow2_types.specs.declared.error.Error.TheVariants.{OutOfMemory};
 ghost use Rattle.arrow2_kernels.specs.WordResults.{AreJoinedResults, MayReturnRow};
-ghost use Rattle.arrow2_bitmap.specs.PackedBitmaps.{IsPacked};
+ghost use Rattle.arrow2_bitmap.specs.PackedBitmaps.{IsPacked, MakesPacked};
 ghost use Rattle.arrow2_model.specs.Rows.{AreRowsOf, IsBitwiseOnRows, ComputesRows};
 ghost use Rattle.arrow2_types.specs.Failures.{OnlyOutOfMemory};
 
@@ -21,11 +21,11 @@ use std::alloc::Global;
 use std::convert::TryFrom;
 use std::ops::{BitAnd, BitOr, BitXor, Not};
 
-/// Reads lists of `len` booleans each as words of 64 bits, the last word of each list padded with false, applies `op`
-/// to each row of words, and returns a bitmap of the first `len` bits of the results. The first item of a word is its
-/// lowest bit. A row is the words of all lists at one index; `rows` is, for example,
-/// `OneList { chunks: bitmap.chunks() }` of `arrow2_kernels`. Requires that each list has `len` items still to come,
-/// and that the `requires` of `op` holds for any words, not only for those of these lists.
+/// Applies `op` to each row of words, and returns a bitmap of the first `len` bits of the results. A row has one word
+/// of 64 bits of each list of `rows`, all at the same index. The first item of a word is its lowest bit. The last word
+/// of each list is padded with false. `rows` is, for example, `OneList { chunks: bitmap.chunks() }` of
+/// `arrow2_kernels`. Requires that each list has `len` items still to come, and that the `requires` of `op` holds for
+/// any words, not only for those of these lists.
 ///
 /// For any `op` the clauses state that the items are the bits of result words, and that each result word is one that
 /// the contract of `op` allows for the input words at its index. If the contract of `op` determines each result word
@@ -67,10 +67,8 @@ pub fn from_rows<S: WordRows<u64>, F: Fn(S::Row) -> u64>(
     // may return for a row that has the same words as the row at this index.
     ensures results { IfOk result (λ b. AreJoinedResults 64 len
         (λ j. MayReturnRow 64 S.words (λ x. x) (F.post op) (S.row_at rows j)) (items_of b)) }
-    // The new bitmap has `len` items. It is stored in canonical bytes, from bit 0 on. The only error is `OutOfMemory`.
-    ensures len { IfOk result (λ b. length (items_of b) ≡ len) }
-    ensures storage { IfOk result (λ b. IsPacked b) }
-    ensures only { OnlyOutOfMemory result }
+    // A new bitmap of `len` items, in canonical bytes from bit 0 on; or `OutOfMemory`.
+    ensures made { MakesPacked result len }
 {
     let bytes = map_rows(alloc, len, rows, op)?;
     prove!(bytes_for(len) <= bytes.len());
@@ -107,11 +105,8 @@ pub fn unary<F: Fn(u64) -> u64>(lhs: &Bitmap, op: F) -> Result<Bitmap>
     // is one that `op` may return for the word of the list at this index.
     ensures results { IfOk result (λ b. AreJoinedResults 64 (length (items_of lhs.now))
         (λ j. F.post op (bitmap_word 64 lhs.now j)) (items_of b)) }
-    // The new bitmap has the length of the input. It is stored in canonical bytes, from bit 0 on. The only error is
-    // `OutOfMemory`.
-    ensures len { IfOk result (λ b. length (items_of b) ≡ length (items_of lhs.now)) }
-    ensures storage { IfOk result (λ b. IsPacked b) }
-    ensures only { OnlyOutOfMemory result }
+    // A new bitmap of the same length, in canonical bytes from bit 0 on; or `OutOfMemory`.
+    ensures made { MakesPacked result (length (items_of lhs.now)) }
 {
     let alloc = lhs.allocator();
     let (bytes, offset, length) = lhs.as_slice();
@@ -155,11 +150,8 @@ pub fn binary<F: Fn(u64, u64) -> u64>(lhs: &Bitmap, rhs: &Bitmap, op: F) -> Resu
     // is one that `op` may return for the words of both lists at this index.
     ensures results { IfOk result (λ b. AreJoinedResults 64 (length (items_of lhs.now))
         (λ j. F.post op (bitmap_word 64 lhs.now j) (bitmap_word 64 rhs.now j)) (items_of b)) }
-    // The new bitmap has the length of the inputs. It is stored in canonical bytes, from bit 0 on. The only error is
-    // `OutOfMemory`.
-    ensures len { IfOk result (λ b. length (items_of b) ≡ length (items_of lhs.now)) }
-    ensures storage { IfOk result (λ b. IsPacked b) }
-    ensures only { OnlyOutOfMemory result }
+    // A new bitmap of the same length, in canonical bytes from bit 0 on; or `OutOfMemory`.
+    ensures made { MakesPacked result (length (items_of lhs.now)) }
 {
     let left = OneList {
         chunks: lhs.chunks::<u64>(),
@@ -189,9 +181,7 @@ pub fn binary<F: Fn(u64, u64) -> u64>(lhs: &Bitmap, rhs: &Bitmap, op: F) -> Resu
 #[inline(always)]
 pub fn unary_table(lhs: &Bitmap, t: u8) -> Result<Bitmap>
     ensures items { IfOk result (λ b. items_of b ≡ each t (items_of lhs.now ∷ [])) }
-    ensures len { IfOk result (λ b. length (items_of b) ≡ length (items_of lhs.now)) }
-    ensures storage { IfOk result (λ b. IsPacked b) }
-    ensures only { OnlyOutOfMemory result }
+    ensures made { MakesPacked result (length (items_of lhs.now)) }
 {
     let (bytes, offset, length) = lhs.as_slice();
     if offset == 0 {
@@ -219,9 +209,7 @@ pub fn binary_table(lhs: &Bitmap, rhs: &Bitmap, t: u8) -> Result<Bitmap>
     requires same_length { length (items_of lhs.now) ≡ length (items_of rhs.now) }
     ensures items { IfOk result (λ b. items_of b
         ≡ each t (items_of lhs.now ∷ items_of rhs.now ∷ [])) }
-    ensures len { IfOk result (λ b. length (items_of b) ≡ length (items_of lhs.now)) }
-    ensures storage { IfOk result (λ b. IsPacked b) }
-    ensures only { OnlyOutOfMemory result }
+    ensures made { MakesPacked result (length (items_of lhs.now)) }
 {
     let (left, left_offset, length) = lhs.as_slice();
     let (right, right_offset, _right_length) = rhs.as_slice();
@@ -246,9 +234,7 @@ pub fn and(lhs: &Bitmap, rhs: &Bitmap) -> Result<Bitmap>
     // Table 8: true only for two true items.
     ensures items { IfOk result (λ b. items_of b
         ≡ each 8 (items_of lhs.now ∷ items_of rhs.now ∷ [])) }
-    ensures len { IfOk result (λ b. length (items_of b) ≡ length (items_of lhs.now)) }
-    ensures storage { IfOk result (λ b. IsPacked b) }
-    ensures only { OnlyOutOfMemory result }
+    ensures made { MakesPacked result (length (items_of lhs.now)) }
 {
     if one_is_all(lhs, rhs, false) {
         constant_bitmap(lhs.allocator(), lhs.len(), false)
@@ -270,9 +256,7 @@ pub fn or(lhs: &Bitmap, rhs: &Bitmap) -> Result<Bitmap>
     // Table 14: false only for two false items.
     ensures items { IfOk result (λ b. items_of b
         ≡ each 14 (items_of lhs.now ∷ items_of rhs.now ∷ [])) }
-    ensures len { IfOk result (λ b. length (items_of b) ≡ length (items_of lhs.now)) }
-    ensures storage { IfOk result (λ b. IsPacked b) }
-    ensures only { OnlyOutOfMemory result }
+    ensures made { MakesPacked result (length (items_of lhs.now)) }
 {
     if one_is_all(lhs, rhs, true) {
         constant_bitmap(lhs.allocator(), lhs.len(), true)
@@ -294,9 +278,7 @@ pub fn xor(lhs: &Bitmap, rhs: &Bitmap) -> Result<Bitmap>
     // Table 6: true where the two items differ.
     ensures items { IfOk result (λ b. items_of b
         ≡ each 6 (items_of lhs.now ∷ items_of rhs.now ∷ [])) }
-    ensures len { IfOk result (λ b. length (items_of b) ≡ length (items_of lhs.now)) }
-    ensures storage { IfOk result (λ b. IsPacked b) }
-    ensures only { OnlyOutOfMemory result }
+    ensures made { MakesPacked result (length (items_of lhs.now)) }
 {
     let left = value_of_all(lhs);
     let right = value_of_all(rhs);

@@ -11,7 +11,7 @@ ghost use Rattle.arrow2_bitmap.specs.PackedBitmaps.{packed_storage};
 ghost use Rattle.arrow2_model.specs.Shown.{shown};
 ghost use Rattle.arrow2_model.specs.Tables.{each};
 ghost use Rattle.arrow2_types.specs.Failures.{FailsOnlyWith, error_of, OnlyOutOfMemory, OnlyOverflowOrOutOfMemory};
-ghost use Rattle.arrow2_packed_bits.specs.Growth.{Appends};
+ghost use Rattle.arrow2_packed_bits.specs.Growth.{Appends, Reserves};
 ghost use Rattle.arrow2_bitmap.specs.Iterators.{MayYieldTooMany};
 ghost use Rattle.arrow2_bitmap.specs.Failures.{too_long};
 ghost use Rattle.std.specs.declared.alloc.Global.{Global};
@@ -70,15 +70,14 @@ impl MutableBitmap {
     }
 
     /// Returns a bitmap of the first `len` bits of `bytes`, over the same vector. Cuts spare bytes off and clears
-    /// padding bits. The capacity is eight times that of the vector, or `usize::MAX` where that is less. Does not
-    /// allocate where the bytes have at least `len` bits. In arrow2 spare bytes stay, and `push` may write into the
-    /// wrong byte.
+    /// padding bits. The capacity is eight times that of the vector, but at most `usize::MAX`. Does not allocate where
+    /// the bytes have at least `len` bits. In arrow2 spare bytes stay, and `push` may write into the wrong byte.
     ///
     /// # Errors
     ///
-    /// If `len` is above eight times the number of bytes, the error is `InvalidArgumentError`, or `OutOfMemory` if its
-    /// text cannot be allocated. (No clause states that this is the only reason for `OutOfMemory`.) Otherwise there is
-    /// no error. After an error the bytes are dropped.
+    /// If `len` is above eight times the number of bytes, the error is `InvalidArgumentError` with the message
+    /// `too_long`, which begins with "The length", or `OutOfMemory` if it cannot be allocated. (No clause states that
+    /// this is the only reason for `OutOfMemory`.) Otherwise there is no error. After an error the bytes are dropped.
     pub fn try_new(bytes: Vec<u8>, len: usize) -> Result<MutableBitmap>
         ensures accepted { IsOk result ↔ (len ≤ 8 * vec_len bytes) }
         ensures ok { IfOk result (λ m. m.items ≡ take len (bits bytes.items)) }
@@ -91,9 +90,9 @@ impl MutableBitmap {
     }
 
     /// Returns a bitmap of the first `len` bits of `bytes`, over the same vector. Cuts spare bytes off and clears
-    /// padding bits. The capacity is eight times that of the vector, or `usize::MAX` where that is less. Requires `len`
-    /// to be at most eight times the number of bytes. Does not allocate. In arrow2 spare bytes stay, and `push` may
-    /// write into the wrong byte.
+    /// padding bits. The capacity is eight times that of the vector, but at most `usize::MAX`. Requires `len` to be at
+    /// most eight times the number of bytes. Does not allocate. In arrow2 spare bytes stay, and `push` may write into
+    /// the wrong byte.
     pub fn from_vec(bytes: Vec<u8>, len: usize) -> MutableBitmap
         requires inside { len ≤ 8 * vec_len bytes }
         ensures items { result.items ≡ take len (bits bytes.items) }
@@ -157,7 +156,8 @@ impl MutableBitmap {
     /// # Errors
     ///
     /// `Overflow` or `OutOfMemory`. `Overflow` comes only if the contract of the iterator allows more than `usize::MAX`
-    /// items. After either error, the iterator and the items so far are dropped.
+    /// items. Where it yields more, one of the two comes. After either error, the iterator and the items so far are
+    /// dropped.
     pub fn try_from_iter<I: IntoIterator<Item = bool>>(
         alloc: Global,
         iter: I,
@@ -276,18 +276,8 @@ impl MutableBitmap {
     /// only where the length plus `additional` passes the capacity. After either error, the bitmap holds the items that
     /// it held. The capacity never falls.
     pub fn reserve(&mut self, additional: usize) -> Result<()>
-        // The items stay; after `Ok`, `additional` more fit. `within_capacity` holds for every `MutableBitmap`: the
-        // length is at most the capacity.
-        ensures items { self.new.items ≡ self.old.items }
-        ensures ok { OnOk result (length self.old.items + additional ≤ self.new.capacity) }
-        ensures within_capacity { length self.old.items ≤ self.old.capacity }
-        // When `Overflow` comes, which errors can come, and when none does.
-        ensures overflow { IsErrOf result Error.Overflow ↔
-            (2 ^ 64 ≤ length self.old.items + additional) }
-        ensures only { OnlyOverflowOrOutOfMemory result }
-        ensures succeeds { length self.old.items + additional ≤ self.old.capacity → IsOk result }
-        // The capacity never falls.
-        ensures capacity { self.old.capacity ≤ self.new.capacity }
+        ensures { Reserves error_of result self.old.items self.new.items additional
+            self.old.capacity self.new.capacity }
     {
         self.bits.reserve(additional)?;
         Ok(())
@@ -378,7 +368,8 @@ impl MutableBitmap {
         BitmapIter::within(self.as_slice(), 0, self.len())
     }
 
-    /// Returns the capacity in items, or `usize::MAX` where the exact number is above it. arrow2's capacity may wrap.
+    /// Returns the capacity in items, or `usize::MAX` where the exact number is above it. It is at least the length.
+    /// arrow2's capacity may wrap.
     pub fn capacity(&self) -> usize
         ensures capacity { result ≡ self.now.capacity }
         ensures within_capacity { length self.now.items ≤ result }

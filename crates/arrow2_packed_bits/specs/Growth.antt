@@ -1,5 +1,5 @@
 -- The records of growth by bits.
-use Rattle.std.specs.Prelude.{◌≡◌, ◌+◌, ◌<◌, ◌≤◌, ◌^◌, ◌↔◌, ◌⊎◌, List, ◌++◌, Bool, length, Result, OnOk, OnErr, IsOk, IfErr, IsErrOf}
+use Rattle.std.specs.Prelude.{◌≡◌, ℕ, ◌+◌, ◌<◌, ◌≤◌, ◌^◌, ◌↔◌, ◌⊎◌, List, ◌++◌, Bool, length, Result, OnOk, OnErr, IsOk, IfErr, IsErrOf}
 use Rattle.arrow2_model.specs.Lists.{GrowingBitmap}
 use Rattle.arrow2_types.specs.declared.growth_error.GrowthError.{GrowthError}
 use Rattle.arrow2_types.specs.declared.growth_error.GrowthError.TheVariants.{Overflow, OutOfMemory}
@@ -32,3 +32,22 @@ pub record Pushes {T E : Type 0} (r : Result T E) (old new : GrowingBitmap) (mor
   pub succeeds : length old.items + length more ≤ old.capacity → IsOk r
   -- the capacity never falls
   pub capacity : old.capacity ≤ new.capacity
+
+-- capacity for `additional` more items is reserved, where `as_error` turns a `GrowthError` into the error of the call
+pub record Reserves {X T E : Type 0} (as_error : GrowthError → E) (r : Result T E) (old new : List X) (additional old_capacity new_capacity : ℕ) : Type 0 where
+  -- the items stay
+  pub items : new ≡ old
+  -- after `Ok` that many more are within the capacity
+  pub ok : OnOk r (length old + additional ≤ new_capacity)
+  -- a usize counts the items
+  pub fits : length old < 2 ^ 64
+  -- and they are within the capacity
+  pub within_capacity : length old ≤ old_capacity
+  -- it overflows exactly where a usize cannot count that many more
+  pub overflow : IsErrOf r (as_error Overflow) ↔ (2 ^ 64 ≤ length old + additional)
+  -- there is no other error but out of memory
+  pub only : IfErr r (λ e. (e ≡ as_error Overflow) ⊎ (e ≡ as_error OutOfMemory))
+  -- within the capacity it succeeds
+  pub succeeds : length old + additional ≤ old_capacity → IsOk r
+  -- the capacity never falls
+  pub capacity : old_capacity ≤ new_capacity

@@ -1,11 +1,11 @@
 //! A growing list of booleans, packed into bytes.
-ghost use Rattle.std.specs.Prelude.{◌≡◌, ◌+◌, ◌-◌, ◌*◌, ◌/◌, ◌%◌, ◌<◌, ◌≤◌, ◌^◌, ◌↔◌, ◌⊎◌, ℕ, IsTrue, List, Bool, [], ◌∷◌, ◌++◌, true, false, slice_index_or, length, take, replicate, slice_set, min, OnOk, OnErr, IsOk, IfOk, IfNone, IsErrOf, MatchOption, vec_len, vec_capacity};
+ghost use Rattle.std.specs.Prelude.{◌≡◌, ◌+◌, ◌-◌, ◌*◌, ◌/◌, ◌%◌, ◌<◌, ◌≤◌, ◌^◌, ◌⊎◌, ℕ, List, Bool, [], ◌∷◌, ◌++◌, true, false, slice_index_or, length, take, replicate, slice_set, min, OnOk, OnErr, IsOk, IfOk, IfNone, MatchOption, vec_len, vec_capacity};
 ghost use Rattle.arrow2_model.specs.Lists.{bit, bits, unnum, canonical_bytes, IsCanonical, word};
 ghost use Rattle.arrow2_model.specs.Kernels.{kernel};
 ghost use Rattle.arrow2_model.specs.Rows.{AreWordsOf, ComputesOwnRows, IsBitwiseOnOwnRows};
 ghost use Rattle.arrow2_kernels.specs.WordResults.{AreJoinedResults, MayReturnOwn};
 ghost use Rattle.arrow2_model.specs.Tables.{each};
-ghost use Rattle.arrow2_packed_bits.specs.Growth.{Appends, Pushes};
+ghost use Rattle.arrow2_packed_bits.specs.Growth.{Appends, Pushes, Reserves};
 ghost use Rattle.arrow2_types.specs.declared.growth_error.GrowthError.TheVariants as growth_error;
 ghost use Rattle.std.specs.declared.alloc.Global.{Global};
 
@@ -144,18 +144,8 @@ impl PackedBits {
     /// `Overflow` exactly where there would be more than `usize::MAX` items, else `OutOfMemory` where an allocation
     /// fails. After either error, the items are as before.
     pub fn reserve(&mut self, additional: usize) -> Result<(), GrowthError>
-        // The items stay; after `Ok`, `additional` more fit.
-        ensures items { self.new.items ≡ self.old.items }
-        ensures ok { OnOk result (length self.old.items + additional ≤ self.new.capacity) }
-        // Facts that the type guarantees.
-        ensures fits { length self.old.items < 2 ^ 64 }
-        ensures within_capacity { length self.old.items ≤ self.old.capacity }
-        // When each error comes, and when none does.
-        ensures overflow { IsErrOf result growth_error.Overflow ↔
-            (2 ^ 64 ≤ length self.old.items + additional) }
-        ensures succeeds { length self.old.items + additional ≤ self.old.capacity → IsOk result }
-        // The capacity never falls.
-        ensures capacity { self.old.capacity ≤ self.new.capacity }
+        ensures { Reserves (λ error. error) result self.old.items self.new.items additional
+            self.old.capacity self.new.capacity }
     {
         let Some(total) = self.checked_total(additional) else {
             return Err(GrowthError::Overflow);

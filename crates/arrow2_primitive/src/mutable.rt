@@ -9,9 +9,10 @@ ghost use Rattle.arrow2_bitmap.specs.Iterators.{MayYieldTooMany};
 ghost use Rattle.arrow2_bitmap.specs.PackedBitmaps.{IsPacked};
 ghost use Rattle.arrow2_types.specs.declared.growth_error.GrowthError.TheVariants as growth_error;
 ghost use Rattle.arrow2_walks.specs.Zipped.{zipped};
+ghost use Rattle.arrow2_packed_bits.specs.Growth.{Reserves};
 ghost use Rattle.arrow2_primitive.specs.Growth.{AppendsItems};
 ghost use Rattle.arrow2_primitive.specs.Primitive.{primitive_items, GrowingPrimitive};
-ghost use Rattle.arrow2_types.specs.Failures.{OnlyOutOfMemory, OnlyOverflowOrOutOfMemory};
+ghost use Rattle.arrow2_types.specs.Failures.{error_of, OnlyOutOfMemory, OnlyOverflowOrOutOfMemory};
 
 use crate::array::{PrimitiveArray, native_type};
 use arrow2_bitmap::MutableBitmap;
@@ -246,18 +247,12 @@ impl<T: NativeType> MutablePrimitiveArray<T> {
     /// `Overflow` exactly where the length plus `additional` would pass `usize::MAX`, else only `OutOfMemory`. After
     /// either error, the array holds the items that it held.
     pub fn reserve(&mut self, additional: usize) -> Result<()>
-        // The items and the logical type are as before. After `Ok`, `additional` more items fit the capacity.
-        ensures items { self.new.items ≡ self.old.items }
+        ensures reserves { Reserves error_of result self.old.items self.new.items additional
+            self.old.capacity self.new.capacity }
         ensures data_type { self.new.data_type ≡ self.old.data_type }
-        ensures ok { OnOk result (length self.old.items + additional ≤ self.new.capacity) }
-        // When each error comes, and when none does.
-        ensures overflow { IsErrOf result Error.Overflow ↔
-            (2 ^ 64 ≤ length self.old.items + additional) }
-        ensures only { OnlyOverflowOrOutOfMemory result }
-        ensures succeeds { length self.old.items + additional ≤ self.old.capacity → IsOk result }
-        // The capacity never falls.
-        ensures capacity { self.old.capacity ≤ self.new.capacity }
     {
+        // For the proof alone: reading the capacity brings the fact that the items are within it.
+        let _ = self.capacity();
         self.validity.reserve(additional)?;
         self.values.reserve(additional)?;
         Ok(())

@@ -4,8 +4,7 @@ ghost use Rattle.arrow2_model.specs.Kernels.{ternary_kernel, quaternary_kernel, 
 ghost use Rattle.arrow2_model.specs.Lists.{bitmap_word, items_of};
 ghost use Rattle.arrow2_model.specs.Tables.{each, IsBitwiseTernary, IsBitwiseQuaternary};
 ghost use Rattle.arrow2_kernels.specs.WordResults.{AreJoinedResults};
-ghost use Rattle.arrow2_bitmap.specs.PackedBitmaps.{IsPacked};
-ghost use Rattle.arrow2_types.specs.Failures.{OnlyOutOfMemory};
+ghost use Rattle.arrow2_bitmap.specs.PackedBitmaps.{MakesPacked};
 
 use arrow2_bitmap::Bitmap;
 use arrow2_bitmap::bitmap_ops::from_rows;
@@ -51,10 +50,8 @@ pub fn ternary<F: Fn(u64, u64, u64) -> u64>(
     ensures results { IfOk result (λ b. AreJoinedResults 64 (length (items_of a1.now))
         (λ j. F.post op (bitmap_word 64 a1.now j) (bitmap_word 64 a2.now j)
         (bitmap_word 64 a3.now j)) (items_of b)) }
-    // The bitmap has as many items as `a1`, in canonical bytes. The only error is `OutOfMemory`.
-    ensures len { IfOk result (λ b. length (items_of b) ≡ length (items_of a1.now)) }
-    ensures storage { IfOk result (λ b. IsPacked b) }
-    ensures only { OnlyOutOfMemory result }
+    // A new bitmap of the same length, in canonical bytes from bit 0 on; or `OutOfMemory`.
+    ensures made { MakesPacked result (length (items_of a1.now)) }
 {
     let a1_words = OneList {
         chunks: a1.chunks::<u64>(),
@@ -118,10 +115,8 @@ pub fn quaternary<F: Fn(u64, u64, u64, u64) -> u64>(
     ensures results { IfOk result (λ b. AreJoinedResults 64 (length (items_of a1.now))
         (λ j. F.post op (bitmap_word 64 a1.now j) (bitmap_word 64 a2.now j)
         (bitmap_word 64 a3.now j) (bitmap_word 64 a4.now j)) (items_of b)) }
-    // The bitmap has as many items as `a1`, in canonical bytes. The only error is `OutOfMemory`.
-    ensures len { IfOk result (λ b. length (items_of b) ≡ length (items_of a1.now)) }
-    ensures storage { IfOk result (λ b. IsPacked b) }
-    ensures only { OnlyOutOfMemory result }
+    // A new bitmap of the same length, in canonical bytes from bit 0 on; or `OutOfMemory`.
+    ensures made { MakesPacked result (length (items_of a1.now)) }
 {
     let rows = ZipRows {
         left: pair(a1, a2),
@@ -164,9 +159,7 @@ pub fn ternary_table(a1: &Bitmap, a2: &Bitmap, a3: &Bitmap, t: u8) -> Result<Bit
     requires same_length3 { length (items_of a1.now) ≡ length (items_of a3.now) }
     ensures items { IfOk result (λ b. items_of b
         ≡ each t (items_of a1.now ∷ items_of a2.now ∷ items_of a3.now ∷ [])) }
-    ensures len { IfOk result (λ b. length (items_of b) ≡ length (items_of a1.now)) }
-    ensures storage { IfOk result (λ b. IsPacked b) }
-    ensures only { OnlyOutOfMemory result }
+    ensures made { MakesPacked result (length (items_of a1.now)) }
 {
     ternary(a1, a2, a3, |x, y, z| ternary_outputs(u16::from(t), x, y, z))
 }
@@ -194,10 +187,8 @@ pub fn quaternary_table(
     // The outputs of the table, item by item.
     ensures items { IfOk result (λ b. items_of b
         ≡ each t (items_of a1.now ∷ items_of a2.now ∷ items_of a3.now ∷ items_of a4.now ∷ [])) }
-    // The bitmap has as many items as `a1`, in canonical bytes. The only error is `OutOfMemory`.
-    ensures len { IfOk result (λ b. length (items_of b) ≡ length (items_of a1.now)) }
-    ensures storage { IfOk result (λ b. IsPacked b) }
-    ensures only { OnlyOutOfMemory result }
+    // A new bitmap of the same length, in canonical bytes from bit 0 on; or `OutOfMemory`.
+    ensures made { MakesPacked result (length (items_of a1.now)) }
 {
     quaternary(
         a1,

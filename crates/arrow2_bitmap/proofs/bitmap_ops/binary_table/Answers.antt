@@ -1,4 +1,4 @@
-use Rattle.std.proofs.Common.{◌∙◌, ◌≡◌, ℕ, List, [], ◌∷◌, Bool, ap, sym, take, arith}
+use Rattle.std.proofs.Common.{◌∙◌, ◌≡◌, ℕ, List, [], ◌∷◌, Bool, ap, sym, take, arith, rules}
 use Rattle.std.proofs.lemmas.Result.{IfOk-weaker}
 use Rattle.arrow2_model.specs.Lists.{bits, items_of}
 use Rattle.arrow2_model.specs.Tables.{each}
@@ -21,10 +21,14 @@ returns-in_ok-results-clause-items c =
     (λ m e. e ∙ (c.in_ok-results.ensures.items ∙ (ap (λ xs. each c.args.t (xs ∷ take l.2 (bits r.0.now) ∷ [])) own ∙ ap (λ ys. each c.args.t (a ∷ ys ∷ [])) paired)))
     c.from_u8_vec.ensures.items
 
-pub returns-in_ok-results-clause-len : goal.returns-in_ok-results-clause-len
-returns-in_ok-results-clause-len c =
+pub returns-in_ok-results-clause-made : goal.returns-in_ok-results-clause-made
+returns-in_ok-results-clause-made c =
     let l = c.as_slice-left_offset.result in
-    IfOk-weaker c.from_u8_vec.result _ _ (λ b e. e ∙ sym (shown_length l.0.now (items_of c.args.lhs.now) l.1 l.2 c.as_slice-left_offset.ensures.inside c.as_slice-left_offset.ensures.items)) c.from_u8_vec.ensures.len
+    record {
+      len = IfOk-weaker c.from_u8_vec.result _ _ (λ b e. e ∙ sym (shown_length l.0.now (items_of c.args.lhs.now) l.1 l.2 c.as_slice-left_offset.ensures.inside c.as_slice-left_offset.ensures.items)) c.from_u8_vec.ensures.len;
+      storage = IfOk-weaker c.from_u8_vec.result _ _ (packed_bytes c.in_ok-results.results.items l.2 c.in_ok-results.ensures.canonical) c.from_u8_vec.ensures.ok;
+      only = search rules;
+    }
 
 pub map_binary-requires-clause-right : goal.map_binary-requires-clause-right
 map_binary-requires-clause-right c =
@@ -33,9 +37,3 @@ map_binary-requires-clause-right c =
     let ll = shown_length l.0.now (items_of c.args.lhs.now) l.1 l.2 c.as_slice-left_offset.ensures.inside c.as_slice-left_offset.ensures.items in
     let lr = shown_length r.0.now (items_of c.args.rhs.now) r.1 r.2 c.as_slice-right_offset.ensures.inside c.as_slice-right_offset.ensures.items in
     omega (arith, ll, lr, c.requires.same_length, c.as_slice-right_offset.ensures.inside)
-
-pub returns-in_ok-results-clause-storage : goal.returns-in_ok-results-clause-storage
-returns-in_ok-results-clause-storage c =
-    IfOk-weaker c.from_u8_vec.result _ _
-    (packed_bytes c.in_ok-results.results.items c.as_slice-left_offset.result.2 c.in_ok-results.ensures.canonical)
-    c.from_u8_vec.ensures.ok

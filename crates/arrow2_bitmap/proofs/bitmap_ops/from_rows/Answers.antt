@@ -1,4 +1,4 @@
-use Rattle.std.proofs.Common.{◌≡◌, ◌∙◌, ℕ, take, arith}
+use Rattle.std.proofs.Common.{◌≡◌, ◌∙◌, ℕ, take, arith, rules}
 use Rattle.std.proofs.lemmas.Result.{IfOk-weaker}
 use Rattle.arrow2_model.proofs.Kernels.{table_word}
 use Rattle.arrow2_model.proofs.RowKernels.{rows_kernel, rows_table, acts_rows}
@@ -22,11 +22,12 @@ returns-clause-table g c t lists acts are =
     (λ b e. e ∙ (c.in_ok-bytes.ensures.items (table_word 64 t) (acts_rows 64 t g.S.WordRows.words (λ x. x) _ acts) ∙ rows_table 64 c.args.len t lists (g.S.WordRows.row_at c.args.rows) (omega arith) are))
     c.from_u8_vec.ensures.items
 
-pub returns-clause-storage : goal.returns-clause-storage
-returns-clause-storage g c =
-    IfOk-weaker c.from_u8_vec.result _ _
-    (packed_bytes c.in_ok-bytes.bytes.items c.args.len c.in_ok-bytes.ensures.canonical)
-    c.from_u8_vec.ensures.ok
+pub returns-clause-made : goal.returns-clause-made
+returns-clause-made g c = record {
+  len = search rules;
+  storage = IfOk-weaker c.from_u8_vec.result _ _ (packed_bytes c.in_ok-bytes.bytes.items c.args.len c.in_ok-bytes.ensures.canonical) c.from_u8_vec.ensures.ok;
+  only = search rules;
+}
 
 pub returns-clause-results : goal.returns-clause-results
 returns-clause-results g c =

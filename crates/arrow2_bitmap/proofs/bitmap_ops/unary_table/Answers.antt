@@ -1,4 +1,4 @@
-use Rattle.std.proofs.Common.{◌∙◌, [], ◌∷◌, ap, sym}
+use Rattle.std.proofs.Common.{◌∙◌, [], ◌∷◌, ap, sym, rules}
 use Rattle.std.proofs.lemmas.Result.{IfOk-weaker}
 use Rattle.arrow2_model.specs.Lists.{items_of}
 use Rattle.arrow2_model.specs.Tables.{each}
@@ -12,13 +12,11 @@ returns-in_ok-results-clause-items c =
     let own = shown_items shown.0.now (items_of c.args.lhs.now) shown.1 shown.2 c.if-offset-eq0.true c.as_slice-offset.ensures.items in
     IfOk-weaker c.from_u8_vec.result _ _ (λ b e. e ∙ (c.in_ok-results.ensures.items ∙ ap (λ xs. each c.args.t (xs ∷ [])) own)) c.from_u8_vec.ensures.items
 
-pub returns-in_ok-results-clause-len : goal.returns-in_ok-results-clause-len
-returns-in_ok-results-clause-len c =
+pub returns-in_ok-results-clause-made : goal.returns-in_ok-results-clause-made
+returns-in_ok-results-clause-made c =
     let shown = c.as_slice-offset.result in
-    IfOk-weaker c.from_u8_vec.result _ _ (λ b e. e ∙ sym (shown_length shown.0.now (items_of c.args.lhs.now) shown.1 shown.2 c.as_slice-offset.ensures.inside c.as_slice-offset.ensures.items)) c.from_u8_vec.ensures.len
-
-pub returns-in_ok-results-clause-storage : goal.returns-in_ok-results-clause-storage
-returns-in_ok-results-clause-storage c =
-    IfOk-weaker c.from_u8_vec.result _ _
-    (packed_bytes c.in_ok-results.results.items c.as_slice-offset.result.2 c.in_ok-results.ensures.canonical)
-    c.from_u8_vec.ensures.ok
+    record {
+      len = IfOk-weaker c.from_u8_vec.result _ _ (λ b e. e ∙ sym (shown_length shown.0.now (items_of c.args.lhs.now) shown.1 shown.2 c.as_slice-offset.ensures.inside c.as_slice-offset.ensures.items)) c.from_u8_vec.ensures.len;
+      storage = IfOk-weaker c.from_u8_vec.result _ _ (packed_bytes c.in_ok-results.results.items shown.2 c.in_ok-results.ensures.canonical) c.from_u8_vec.ensures.ok;
+      only = search rules;
+    }
