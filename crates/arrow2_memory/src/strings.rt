@@ -26,11 +26,11 @@ fn strings(alloc: Global) -> Result<BinaryArray<i32>> {
     input(texts(alloc)?.into_binary())
 }
 
-/// The array of no texts, from parts that are rejected.
-fn typed_texts(alloc: Global) -> Result<Utf8Array<i32>> {
+/// The array of no items and of this logical type, which is rejected.
+fn typed<T: ByteArrayType>(alloc: Global, data_type: DataType) -> Result<GenericByteArray<T, i32>> {
     let offsets = input(OffsetsBuffer::new(alloc))?;
     let values = input(Buffer::new(alloc))?;
-    Utf8Array::try_new(DataType::Binary, offsets, values, None)
+    GenericByteArray::try_new(data_type, offsets, values, None)
 }
 
 /// The texts of an array that became a growing one, frozen again. They have no validity, so that one is made.
@@ -70,14 +70,17 @@ fn given_texts(alloc: Global) -> [Row<Utf8Array<i32>>; 5] {
             "Utf8Array::from_options",
             Utf8Array::from_options(alloc, &[Some(TEXT), None]),
         ),
-        ("GenericByteArray::try_new", typed_texts(alloc)),
+        (
+            "GenericByteArray::try_new",
+            typed::<Utf8Type>(alloc, DataType::Binary),
+        ),
         ("GenericByteArray::into_mut", thawed_texts(alloc)),
         ("MutableGenericByteArray::freeze", frozen_texts(alloc)),
     ]
 }
 
 /// Arrays of byte strings.
-fn given_strings(alloc: Global) -> [Row<BinaryArray<i32>>; 4] {
+fn given_strings(alloc: Global) -> [Row<BinaryArray<i32>>; 5] {
     [
         (
             "BinaryArray::from_slice",
@@ -86,6 +89,10 @@ fn given_strings(alloc: Global) -> [Row<BinaryArray<i32>>; 4] {
         (
             "BinaryArray::from_options",
             BinaryArray::from_options(alloc, &[Some(TEXT.as_bytes()), None]),
+        ),
+        (
+            "GenericByteArray::try_new",
+            typed::<BinaryType>(alloc, DataType::Utf8),
         ),
         ("Utf8Array::to_binary", binary_copy(alloc)),
         ("Utf8Array::into_binary", binary_from_texts(alloc)),

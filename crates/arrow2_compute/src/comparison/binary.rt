@@ -6,12 +6,10 @@
 //! texts is a slice of bytes. arrow2 has no call `compare_each`.
 ghost use Rattle.std.specs.Prelude.{◌≡◌, ◌<◌, ◌↔◌, Bool, List, false, length, map, not, option_map, slice_index_or, IfOk, IsNone, ℕ};
 ghost use Rattle.std.specs.Ordering.{partial_ge, partial_gt, partial_le, partial_lt};
-ghost use Rattle.std.specs.Simd.Lanes.{zip2};
 ghost use Rattle.arrow2_array.specs.Items.{boolean_items};
 ghost use Rattle.arrow2_bitmap.specs.Predicates.{IsCallableWithEach, IsCallableWithPairs, IsPairResultAt, IsResultAt, ReturnsOnEach, ReturnsOnPairs};
 ghost use Rattle.arrow2_compute.specs.Comparisons.{bytes_cmp, bytes_eq, compared};
 ghost use Rattle.arrow2_model.specs.Lists.{items_of};
-ghost use Rattle.arrow2_numeric.specs.Pairs.{of_both};
 ghost use Rattle.arrow2_text.specs.Binary.{binary_items, binary_values};
 ghost use Rattle.arrow2_types.specs.Failures.{OnlyOutOfMemory};
 
@@ -212,8 +210,7 @@ pub fn eq<T: ByteArrayType, O: Offset>(
     rhs: &GenericByteArray<T, O>,
 ) -> Result<BooleanArray>
     requires same_length { length (binary_items lhs.now) ≡ length (binary_items rhs.now) }
-    ensures items { IfOk result (λ a. boolean_items a
-        ≡ zip2 (of_both bytes_eq) (binary_items lhs.now) (binary_items rhs.now)) }
+    ensures items { IfOk result (λ a. boolean_items a ≡ compared bytes_eq lhs.now rhs.now) }
     ensures bitmap { IfOk result (λ a. IsNone a.validity.bitmap
         ↔ (IsNone lhs.now.validity.bitmap × IsNone rhs.now.validity.bitmap)) }
     ensures only { OnlyOutOfMemory result }
@@ -233,7 +230,7 @@ pub fn neq<T: ByteArrayType, O: Offset>(
 ) -> Result<BooleanArray>
     requires same_length { length (binary_items lhs.now) ≡ length (binary_items rhs.now) }
     ensures items { IfOk result (λ a. boolean_items a
-        ≡ zip2 (of_both (λ left right. not (bytes_eq left right))) (binary_items lhs.now) (binary_items rhs.now)) }
+        ≡ compared (λ left right. not (bytes_eq left right)) lhs.now rhs.now) }
     ensures bitmap { IfOk result (λ a. IsNone a.validity.bitmap
         ↔ (IsNone lhs.now.validity.bitmap × IsNone rhs.now.validity.bitmap)) }
     ensures only { OnlyOutOfMemory result }
@@ -252,8 +249,7 @@ pub fn lt<T: ByteArrayType, O: Offset>(
     rhs: &GenericByteArray<T, O>,
 ) -> Result<BooleanArray>
     requires same_length { length (binary_items lhs.now) ≡ length (binary_items rhs.now) }
-    ensures items { IfOk result (λ a. boolean_items a
-        ≡ zip2 (of_both (partial_lt bytes_cmp)) (binary_items lhs.now) (binary_items rhs.now)) }
+    ensures items { IfOk result (λ a. boolean_items a ≡ compared (partial_lt bytes_cmp) lhs.now rhs.now) }
     ensures bitmap { IfOk result (λ a. IsNone a.validity.bitmap
         ↔ (IsNone lhs.now.validity.bitmap × IsNone rhs.now.validity.bitmap)) }
     ensures only { OnlyOutOfMemory result }
@@ -272,8 +268,7 @@ pub fn lt_eq<T: ByteArrayType, O: Offset>(
     rhs: &GenericByteArray<T, O>,
 ) -> Result<BooleanArray>
     requires same_length { length (binary_items lhs.now) ≡ length (binary_items rhs.now) }
-    ensures items { IfOk result (λ a. boolean_items a
-        ≡ zip2 (of_both (partial_le bytes_cmp)) (binary_items lhs.now) (binary_items rhs.now)) }
+    ensures items { IfOk result (λ a. boolean_items a ≡ compared (partial_le bytes_cmp) lhs.now rhs.now) }
     ensures bitmap { IfOk result (λ a. IsNone a.validity.bitmap
         ↔ (IsNone lhs.now.validity.bitmap × IsNone rhs.now.validity.bitmap)) }
     ensures only { OnlyOutOfMemory result }
@@ -292,8 +287,7 @@ pub fn gt<T: ByteArrayType, O: Offset>(
     rhs: &GenericByteArray<T, O>,
 ) -> Result<BooleanArray>
     requires same_length { length (binary_items lhs.now) ≡ length (binary_items rhs.now) }
-    ensures items { IfOk result (λ a. boolean_items a
-        ≡ zip2 (of_both (partial_gt bytes_cmp)) (binary_items lhs.now) (binary_items rhs.now)) }
+    ensures items { IfOk result (λ a. boolean_items a ≡ compared (partial_gt bytes_cmp) lhs.now rhs.now) }
     ensures bitmap { IfOk result (λ a. IsNone a.validity.bitmap
         ↔ (IsNone lhs.now.validity.bitmap × IsNone rhs.now.validity.bitmap)) }
     ensures only { OnlyOutOfMemory result }
@@ -312,8 +306,7 @@ pub fn gt_eq<T: ByteArrayType, O: Offset>(
     rhs: &GenericByteArray<T, O>,
 ) -> Result<BooleanArray>
     requires same_length { length (binary_items lhs.now) ≡ length (binary_items rhs.now) }
-    ensures items { IfOk result (λ a. boolean_items a
-        ≡ zip2 (of_both (partial_ge bytes_cmp)) (binary_items lhs.now) (binary_items rhs.now)) }
+    ensures items { IfOk result (λ a. boolean_items a ≡ compared (partial_ge bytes_cmp) lhs.now rhs.now) }
     ensures bitmap { IfOk result (λ a. IsNone a.validity.bitmap
         ↔ (IsNone lhs.now.validity.bitmap × IsNone rhs.now.validity.bitmap)) }
     ensures only { OnlyOutOfMemory result }
