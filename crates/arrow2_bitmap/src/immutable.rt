@@ -90,9 +90,10 @@ impl Bitmap {
     ///
     /// # Errors
     ///
-    /// If `len` is above eight times the number of bytes, the error is `InvalidArgumentError`, or `OutOfMemory` if its
-    /// text cannot be allocated. (No clause states that this is the only reason for `OutOfMemory`.) Otherwise
-    /// `OutOfMemory` is the only error. After an error the bytes are dropped.
+    /// If `len` is above eight times the number of bytes, the error is `InvalidArgumentError` with the message
+    /// `too_long`, which begins with "The offset + length", or `OutOfMemory` if it cannot be allocated. (No clause
+    /// states that this is the only reason for `OutOfMemory`.) Otherwise `OutOfMemory` is the only error. After an
+    /// error the bytes are dropped.
     pub fn try_new(bytes: Vec<u8>, len: usize) -> Result<Bitmap>
         // By `accepted`, the call fails where `len` is too great. `rejected` states with which errors.
         ensures accepted { OnOk result (len ≤ 8 * vec_len bytes) }
@@ -217,7 +218,8 @@ impl Bitmap {
     /// # Errors
     ///
     /// `Overflow` or `OutOfMemory`. `Overflow` comes only if the contract of the iterator allows more than `usize::MAX`
-    /// items. After either error, the iterator and the items so far are dropped.
+    /// items. Where it yields more, one of the two comes. After either error, the iterator and the items so far are
+    /// dropped.
     pub fn try_from_iter<I: IntoIterator<Item = bool>>(alloc: Global, iter: I) -> Result<Bitmap>
         requires { IsFiniteIterable I.into_iter_gives I.IntoIter.can_next I.IntoIter.remaining iter }
         // `it` is an iterator that `iter` may turn into, and `p` a run of it: calls of `next` up to the first `None`.
@@ -414,10 +416,9 @@ impl Bitmap {
     /// The word that `remainder` returns has the items after the full words in its lowest bits. Its bits above these
     /// items are not cleared: mask it to `remainder_len` bits.
     ///
-    /// In the contract, `spill` is this word, with the bits that are not cleared: from its lowest bit on the items
-    /// after the full words, then stored bits that are no items, then zeros. The stored bits end with the byte of the
-    /// last item or, where the bitmap has no full word, with the last byte of the storage, but never past the width of
-    /// the word.
+    /// In the contract, `spill` is this word. From its lowest bit on it has the items after the full words, then stored
+    /// bits that are no items, then zeros. Where the bitmap has a full word, the stored bits end with the byte of the
+    /// last item. Where it has none, they go on to the last byte of the storage, as far as the word is wide.
     pub fn chunks<T: BitChunk>(&self) -> BitChunks<'_, T>
         ensures items { result.items ≡ items_of self.now }
         ensures fits { length (items_of self.now) < 2 ^ 64 }

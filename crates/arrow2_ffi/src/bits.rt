@@ -83,7 +83,7 @@ pub extern "C" fn arrow2_set_bit(bytes: &mut [u8], index: usize, value: bool) ->
 }
 
 /// Copies the `length` bits that begin at bit `offset` to `out`, from bit 0 on. `out` must have exactly the number of
-/// bytes that hold these bits. Its padding bits become 0.
+/// bytes that `length` bits need from bit 0 on, whatever `offset` is. Its padding bits become 0.
 ///
 /// Returns `ARROW2_RANGE` exactly where the bits are not inside the bytes, else `ARROW2_LENGTH` exactly where `out` has
 /// another length.

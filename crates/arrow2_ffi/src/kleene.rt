@@ -49,9 +49,9 @@ impl<'a> Side<'a> {
     }
 }
 
-/// Writes to `values` the values of AND, and to `validity` which of them are not null. An item of the result is false
-/// where at least one side has an item that is false and not null; else null where at least one side has a null; else
-/// true. The value under a null is the AND of both values.
+/// Combines `length` items of both sides by AND, index by index. Writes to `values` the values of the results, and to
+/// `validity` which results are not null. A result is false where at least one of its two items is false and not null;
+/// else null where at least one of them is null; else true. The value under a null is the AND of both values.
 ///
 /// Returns `ARROW2_RANGE` exactly where `length` bits of the values or of the validity of a side, each from its offset
 /// on, are not inside their bytes, also for a `length` of 0; else `ARROW2_LENGTH` exactly where the number of bytes of
@@ -84,9 +84,9 @@ pub extern "C" fn arrow2_and_kleene(
     write::<AND_VALUES, AND_KNOWN, AND_KNOWN_PAIRED>(lhs, rhs, length, values, validity)
 }
 
-/// Writes to `values` the values of OR, and to `validity` which of them are not null. An item of the result is true
-/// where at least one side has an item that is true and not null; else null where at least one side has a null; else
-/// false. The value under a null is the OR of both values.
+/// Combines `length` items of both sides by OR, index by index. Writes to `values` the values of the results, and to
+/// `validity` which results are not null. A result is true where at least one of its two items is true and not null;
+/// else null where at least one of them is null; else false. The value under a null is the OR of both values.
 ///
 /// Returns the codes of `arrow2_and_kleene`, in the same cases.
 #[unsafe(no_mangle)]

@@ -1,8 +1,8 @@
 //! The layer's loops for programs in other languages than Rattle: a static library that works in the caller's memory.
 //!
 //! In the docs of the calls, `length` bits from bit `offset` on are inside the bytes if the exact sum of `offset` and
-//! `length` is at most 8 times the number of bytes, also where `length` is 0. With a code other than `ARROW2_OK` a call
-//! writes nothing but what its docs name.
+//! `length` is at most 8 times the number of bytes, also where `length` is 0. Where its docs name no other code, a call
+//! returns `ARROW2_OK`. With another code it writes nothing but what its docs name.
 //!
 //! A C caller must also follow the rules of `docs/BINDINGS.md` on pointers, alignment, overlap, booleans and threads.
 #![tactic(auto)]

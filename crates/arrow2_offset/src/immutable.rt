@@ -70,12 +70,13 @@ impl<O: Offset> OffsetsBuffer<O> {
         OffsetsBuffer::try_from(Offsets::new(alloc)?)
     }
 
-    /// Returns `Right` of offsets that grow, with the same list, or `Left` of the offsets as they were. It is proved
-    /// that `Right` comes only if nothing is sliced off.
+    /// Returns `Right` of offsets that grow, with the same list, if nothing is sliced off and nobody shares the
+    /// storage. Otherwise returns `Left` of the offsets as they were. Does not allocate. No clause states the capacity
+    /// of `Right`.
     ///
-    /// In the code, `Right` comes exactly if nothing is sliced off and nobody shares the storage; and the call never
-    /// allocates, whichever side it returns. Of these statements, clauses have only what is proved above. No clause
-    /// states the capacity of `Right`.
+    /// It is proved that `Left` has the offsets as they were, and that `Right` has the same list and comes only if
+    /// nothing is sliced off. No clause is on sharing: it is not proved that `Right` comes only if nobody shares the
+    /// storage, nor that it comes whenever nobody shares it and nothing is sliced off.
     ///
     /// Differs from arrow2, which returns the whole storage, also where the offsets are sliced.
     pub fn into_mut(self) -> Either<Self, Offsets<O>>

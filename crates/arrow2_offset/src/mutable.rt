@@ -164,7 +164,8 @@ impl<O: Offset> Offsets<O> {
         Ok(offsets)
     }
 
-    /// Returns the number of lengths that the offsets can hold before a push allocates.
+    /// Returns the number of lengths that the offsets can hold before a push allocates. It is at least the number of
+    /// slots.
     pub fn capacity(&self) -> usize
         ensures capacity { result ≡ self.now.capacity }
         ensures within_capacity { slots self.now ≤ result }
@@ -250,8 +251,9 @@ impl<O: Offset> Offsets<O> {
     /// # Errors
     ///
     /// `Overflow` or `OutOfMemory`. `Overflow` is possible only if the iterator may yield lengths whose sum, added to
-    /// the last offset, passes `O::MAX`; `OutOfMemory` only if it may yield more lengths than the spare capacity. After
-    /// either error, the offsets are as they were. The capacity never falls.
+    /// the last offset, passes `O::MAX`; `OutOfMemory` only if it may yield more lengths than the spare capacity. Where
+    /// the sum of the yielded lengths, added to the last offset, passes `O::MAX`, one of the two comes. After either
+    /// error, the offsets are as they were. The capacity never falls.
     pub fn try_extend_from_lengths<I: Iterator<Item = usize> + Drop>(
         &mut self,
         lengths: I,

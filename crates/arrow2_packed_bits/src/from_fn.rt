@@ -6,9 +6,9 @@ use crate::packing::word_of;
 use arrow2_chunk::BitChunk;
 use std::alloc::{AllocError, Global};
 
-/// Packs the results of `f` into bytes: bit `k` is the result of `f(k)`, for each `k` below `len`. The bits after these
-/// `len` bits are unspecified, and so is the number of spare bytes. Allocates once, before it calls `f`. Requires that
-/// `f` may be called with each number below `len`.
+/// Packs the results of `f` into bytes: bit `k` is the result of `f(k)`, for each `k` below `len`. After these `len`
+/// bits there may be more bits; no clause states how many, or their values. Allocates once, before it calls `f`.
+/// Requires that `f` may be called with each number below `len`.
 ///
 /// # Errors
 ///
