@@ -16,7 +16,7 @@ ghost use Rattle.arrow2_types.specs.Failures.{FailsOnlyWith, OnlyOutOfMemory, On
 ghost use Rattle.arrow2_types.specs.declared.error.Error.TheVariants.{OutOfMemory};
 ghost use Rattle.arrow2_bitmap.specs.Predicates.{ReturnsBelow, ReturnsOnEach, ReturnsOnPairs, IsResultAt, IsPairResultAt, IsCallableWithEach, IsCallableWithPairs};
 ghost use Rattle.arrow2_bitmap.specs.Iterators.{MayYieldTooMany};
-ghost use Rattle.arrow2_bitmap.specs.PackedBitmaps.{IsPacked, packed_storage};
+ghost use Rattle.arrow2_bitmap.specs.PackedBitmaps.{IsPacked, MakesOfBytes, packed_storage};
 ghost use Rattle.arrow2_bitmap.specs.Failures.{too_long};
 ghost use Rattle.std.specs.declared.alloc.Global.{Global};
 ghost use Rattle.std.specs.Fmt.{WritesStyledOnOk};
@@ -120,14 +120,7 @@ impl Bitmap {
     /// Only `OutOfMemory`. The bytes are then dropped.
     pub fn from_u8_vec(bytes: Vec<u8>, len: usize) -> Result<Bitmap>
         requires inside { len ≤ 8 * vec_len bytes }
-        ensures ok { IfOk result (λ b. b ≡ record {
-          bytes = bytes.items;
-          offset = 0;
-          len = len;
-        }) }
-        ensures items { IfOk result (λ b. items_of b ≡ take len (bits bytes.items)) }
-        ensures len { IfOk result (λ b. length (items_of b) ≡ len) }
-        ensures only { OnlyOutOfMemory result }
+        ensures { MakesOfBytes result bytes.items len }
     {
         prove!(bytes_for(len) <= bytes.len());
         let unset_bits = count_zeros(bytes.as_slice(), 0, len);
@@ -140,14 +133,7 @@ impl Bitmap {
     pub(crate) fn from_counted(bytes: Vec<u8>, len: usize, unset_bits: usize) -> Result<Bitmap>
         requires inside { len ≤ 8 * vec_len bytes }
         requires counted { unset_bits ≡ falses (take len (bits bytes.items)) }
-        ensures ok { IfOk result (λ b. b ≡ record {
-          bytes = bytes.items;
-          offset = 0;
-          len = len;
-        }) }
-        ensures items { IfOk result (λ b. items_of b ≡ take len (bits bytes.items)) }
-        ensures len { IfOk result (λ b. length (items_of b) ≡ len) }
-        ensures only { OnlyOutOfMemory result }
+        ensures { MakesOfBytes result bytes.items len }
     {
         let alloc = *bytes.allocator();
         let bytes = Rc::new(alloc, Bytes::from(bytes))?;
@@ -167,10 +153,7 @@ impl Bitmap {
     /// Only `OutOfMemory`.
     pub fn from_u8_slice(alloc: Global, bytes: &[u8], len: usize) -> Result<Bitmap>
         requires inside { len ≤ 8 * length bytes.now }
-        ensures ok { IfOk result (λ b. b ≡ record { bytes = bytes.now; offset = 0; len = len }) }
-        ensures items { IfOk result (λ b. items_of b ≡ take len (bits bytes.now)) }
-        ensures len { IfOk result (λ b. length (items_of b) ≡ len) }
-        ensures only { OnlyOutOfMemory result }
+        ensures { MakesOfBytes result bytes.now len }
     {
         Bitmap::from_u8_vec(Vec::from_slice(alloc, bytes)?, len)
     }
