@@ -12,7 +12,7 @@ packed_storage items = record { bytes = canonical_bytes items; offset = 0; len =
 abbrev pub IsPacked : BitmapStorage → Type 0
 IsPacked b = b ≡ packed_storage (items_of b)
 
--- a call returns a new bitmap of `count` items
+-- a call returns a bitmap of `count` items
 pub record MakesPacked (r : Result BitmapStorage Error) (count : ℕ) : Type 0 where
   pub len : IfOk r (λ b. length (items_of b) ≡ count)
   -- in their canonical bytes, from bit 0 on

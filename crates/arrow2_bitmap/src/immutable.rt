@@ -90,10 +90,10 @@ impl Bitmap {
     ///
     /// # Errors
     ///
-    /// If `len` is above eight times the number of bytes, the error is `InvalidArgumentError` with the message
-    /// `too_long`, which begins with "The offset + length", or `OutOfMemory` if it cannot be allocated. (No clause
-    /// states that this is the only reason for `OutOfMemory`.) Otherwise `OutOfMemory` is the only error. After an
-    /// error the bytes are dropped.
+    /// If `len` is above eight times the number of bytes: `InvalidArgumentError` with the message that the definition
+    /// `too_long` gives, which begins with "The offset + length"; or `OutOfMemory` if this message cannot be allocated.
+    /// (No clause states that this is the only reason for `OutOfMemory`.) Otherwise `OutOfMemory` is the only error.
+    /// After an error the bytes are dropped.
     pub fn try_new(bytes: Vec<u8>, len: usize) -> Result<Bitmap>
         // By `accepted`, the call fails where `len` is too great. `rejected` states with which errors.
         ensures accepted { OnOk result (len ≤ 8 * vec_len bytes) }
@@ -202,7 +202,7 @@ impl Bitmap {
     ///
     /// `Overflow` or `OutOfMemory`. `Overflow` comes only if the contract of the iterator allows more than `usize::MAX`
     /// items. Where it yields more, one of the two comes. After either error, the iterator and the items so far are
-    /// dropped.
+    /// dropped; no clause states how far the iterator was read.
     pub fn try_from_iter<I: IntoIterator<Item = bool>>(alloc: Global, iter: I) -> Result<Bitmap>
         requires { IsFiniteIterable I.into_iter_gives I.IntoIter.can_next I.IntoIter.remaining iter }
         // `it` is an iterator that `iter` may turn into, and `p` a run of it: calls of `next` up to the first `None`.
@@ -394,14 +394,14 @@ impl Bitmap {
         )
     }
 
-    /// Returns an iterator over the full words of `T`. The first item of a word is its lowest bit.
+    /// Returns an iterator over the items by full words, of type `T`. The first item of a word is its lowest bit.
     ///
     /// The word that `remainder` returns has the items after the full words in its lowest bits. Its bits above these
     /// items are not cleared: mask it to `remainder_len` bits.
     ///
-    /// In the contract, `spill` is this word. From its lowest bit on it has the items after the full words, then stored
-    /// bits that are no items, then zeros. Where the bitmap has a full word, the stored bits end with the byte of the
-    /// last item. Where it has none, they go on to the last byte of the storage, as far as the word is wide.
+    /// In the contract, `spill` is this word: the items after the full words, then stored bits that are no items, then
+    /// zeros, cut at the width of the word. The stored bits go on to the end of the byte of the last item where the
+    /// bitmap has a full word, else to the end of the storage.
     pub fn chunks<T: BitChunk>(&self) -> BitChunks<'_, T>
         ensures items { result.items ≡ items_of self.now }
         ensures fits { length (items_of self.now) < 2 ^ 64 }

@@ -75,9 +75,10 @@ impl MutableBitmap {
     ///
     /// # Errors
     ///
-    /// If `len` is above eight times the number of bytes, the error is `InvalidArgumentError` with the message
-    /// `too_long`, which begins with "The length", or `OutOfMemory` if it cannot be allocated. (No clause states that
-    /// this is the only reason for `OutOfMemory`.) Otherwise there is no error. After an error the bytes are dropped.
+    /// If `len` is above eight times the number of bytes: `InvalidArgumentError` with the message that the definition
+    /// `too_long` gives, which begins with "The length"; or `OutOfMemory` if this message cannot be allocated. (No
+    /// clause states that this is the only reason for `OutOfMemory`.) Otherwise there is no error. After an error the
+    /// bytes are dropped.
     pub fn try_new(bytes: Vec<u8>, len: usize) -> Result<MutableBitmap>
         ensures accepted { IsOk result ↔ (len ≤ 8 * vec_len bytes) }
         ensures ok { IfOk result (λ m. m.items ≡ take len (bits bytes.items)) }
@@ -157,7 +158,7 @@ impl MutableBitmap {
     ///
     /// `Overflow` or `OutOfMemory`. `Overflow` comes only if the contract of the iterator allows more than `usize::MAX`
     /// items. Where it yields more, one of the two comes. After either error, the iterator and the items so far are
-    /// dropped.
+    /// dropped; no clause states how far the iterator was read.
     pub fn try_from_iter<I: IntoIterator<Item = bool>>(
         alloc: Global,
         iter: I,
@@ -368,8 +369,8 @@ impl MutableBitmap {
         BitmapIter::within(self.as_slice(), 0, self.len())
     }
 
-    /// Returns the capacity in items, or `usize::MAX` where the exact number is above it. It is at least the length.
-    /// arrow2's capacity may wrap.
+    /// Returns the capacity in items: eight times that of the vector of bytes, or `usize::MAX` where that is more. It
+    /// is at least the length. arrow2's capacity may wrap.
     pub fn capacity(&self) -> usize
         ensures capacity { result ≡ self.now.capacity }
         ensures within_capacity { length self.now.items ≤ result }

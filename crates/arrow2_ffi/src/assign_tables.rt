@@ -11,7 +11,7 @@ use crate::codes::{ARROW2_LENGTH, ARROW2_OK, ARROW2_RANGE};
 use crate::in_place::{assign_four, assign_three, assign_two};
 use arrow2_kernels::simd_assign::assign_unary;
 
-/// Replaces each of the first `length` bits of `bytes` by the output of `table`, a truth table of one input, for it.
+/// Replaces each of the first `length` bits `a` of `bytes` by bit `a` of `table`, a truth table of one input.
 ///
 /// Returns `ARROW2_RANGE` exactly where `table` is above 3, else `ARROW2_LENGTH` exactly where the number of bytes of
 /// `bytes` is not the one that `length` bits need.
@@ -30,8 +30,8 @@ pub extern "C" fn arrow2_unary_assign_table(bytes: &mut [u8], length: usize, tab
     ARROW2_OK
 }
 
-/// Replaces each of the first `length` bits of `bytes` by the output of `table`, a truth table of two inputs, for it
-/// and the bit at the same index of the second input, counted from its offset.
+/// Replaces each of the first `length` bits `a` of `bytes` by bit `a + 2 * b` of `table`, a truth table of two inputs,
+/// where `b` is the bit of `second` at the same index, counted from bit `second_offset` on.
 ///
 /// Returns `ARROW2_RANGE` exactly where `table` is above 15 or the bits of the second input are not inside its bytes,
 /// else `ARROW2_LENGTH` exactly where the number of bytes of `bytes` is not the one that `length` bits need.

@@ -86,7 +86,7 @@ pub extern "C" fn arrow2_set_bit(bytes: &mut [u8], index: usize, value: bool) ->
 /// bytes that `length` bits need from bit 0 on, whatever `offset` is. Its padding bits become 0.
 ///
 /// Returns `ARROW2_RANGE` exactly where the bits are not inside the bytes, else `ARROW2_LENGTH` exactly where `out` has
-/// another length.
+/// another number of bytes.
 #[unsafe(no_mangle)]
 pub extern "C" fn arrow2_copy_bits(
     bytes: &[u8],

@@ -1,10 +1,13 @@
-//! The layer's loops for programs in other languages than Rattle: a static library that works in the caller's memory.
+//! Functions of the memory layer of Apache Arrow for programs in other languages than Rattle: a static library that
+//! works in the caller's memory. No call allocates.
 //!
 //! In the docs of the calls, `length` bits from bit `offset` on are inside the bytes if the exact sum of `offset` and
-//! `length` is at most 8 times the number of bytes, also where `length` is 0. Where its docs name no other code, a call
-//! returns `ARROW2_OK`. With another code it writes nothing but what its docs name.
+//! `length` is at most 8 times the number of bytes, also where `length` is 0. A call returns `ARROW2_OK` in each case
+//! for which its docs, or those of its module, name no other code. With another code it writes nothing but what they
+//! name.
 //!
-//! A C caller must also follow the rules of `docs/BINDINGS.md` on pointers, alignment, overlap, booleans and threads.
+//! A caller in another language must also follow the rules of `docs/BINDINGS.md` on pointers, alignment, overlap,
+//! booleans and threads.
 #![tactic(auto)]
 
 pub mod assign_tables;

@@ -11,10 +11,10 @@ use arrow2_chunk::BitChunk;
 use std::convert::AsSlice;
 
 /// Replaces each word of the first `len` bits by the result of `op` for this word and the row of words at its index.
-/// The first item of a word is its lowest bit. Where fewer bits are left for the last words, `op` gets these words
-/// padded with false. Padding bits of `bytes` are false afterwards, whatever they were before and whatever `op` returns
-/// for them. Does not allocate. Requires that `bytes` has exactly the bytes that `len` bits need, that each list of
-/// `rows` has `len` items still to come, and that `op` accepts every word and row.
+/// The first item of a word is its lowest bit. Where fewer bits are left than a word of type `T` has, `op` gets the
+/// last word, and those of its row, padded with false. Padding bits of `bytes` are false afterwards, whatever they were
+/// before and whatever `op` returns for them. Does not allocate. Requires that `bytes` has exactly the bytes that `len`
+/// bits need, that each list of `rows` has `len` items still to come, and that `op` accepts every word and row.
 pub fn assign_rows<T: BitChunk, S: WordRows<T>, F: Fn(T, S::Row) -> T>(
     bytes: &mut [u8],
     len: usize,
@@ -27,7 +27,7 @@ pub fn assign_rows<T: BitChunk, S: WordRows<T>, F: Fn(T, S::Row) -> T>(
     requires exact { length bytes.old ≡ (len + 7) / 8 }
     // Padding bits are false.
     ensures canonical { IsCanonical bytes.new len }
-    // If the results of `op` are those of a mathematical function `f` on words:
+    // If the results of `op` are those of a mathematical function `f` of the own word, and then the words of the row:
     ensures items { (f : List ℕ → ℕ) →
         ComputesOwnRows T.WIDTH S.words T.number (F.post op) f →
         take len (bits bytes.new)

@@ -75,7 +75,7 @@ impl<O: Offset> OffsetsBuffer<O> {
     /// of `Right`.
     ///
     /// It is proved that `Left` has the offsets as they were, and that `Right` has the same list and comes only if
-    /// nothing is sliced off. No clause is on sharing: it is not proved that `Right` comes only if nobody shares the
+    /// nothing is sliced off. No clause mentions sharing: it is not proved that `Right` comes only if nobody shares the
     /// storage, nor that it comes whenever nobody shares it and nothing is sliced off.
     ///
     /// Differs from arrow2, which returns the whole storage, also where the offsets are sliced.

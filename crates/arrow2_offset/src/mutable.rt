@@ -253,7 +253,8 @@ impl<O: Offset> Offsets<O> {
     /// `Overflow` or `OutOfMemory`. `Overflow` is possible only if the iterator may yield lengths whose sum, added to
     /// the last offset, passes `O::MAX`; `OutOfMemory` only if it may yield more lengths than the spare capacity. Where
     /// the sum of the yielded lengths, added to the last offset, passes `O::MAX`, one of the two comes. After either
-    /// error, the offsets are as they were. The capacity never falls.
+    /// error, the offsets are as they were, and the iterator is dropped; no clause states how far it was read. The
+    /// capacity never falls.
     pub fn try_extend_from_lengths<I: Iterator<Item = usize> + Drop>(
         &mut self,
         lengths: I,

@@ -76,8 +76,8 @@ pub fn write_sums<O: Offset>(start: usize, lengths: &[usize], offsets: &mut [O])
 
 /// Sets each `out[i]` to `offsets[from + i] - offsets[from]`, so `out` begins at 0, and its lengths are those of the
 /// `out.len() - 1` slots from slot `from` on. Requires that the numbers are offsets, that `out` is not empty, and that
-/// `from + out.len()` is at most `offsets.len()`. `valid` also requires that no offset is above `O::MAX`. That
-/// holds for every number of the type; a caller has it from a call of [`last`], or from `broken_rule`.
+/// `from + out.len()` is at most `offsets.len()`. The clause `valid` also requires that no offset is above `O::MAX`. No
+/// number of the type is; a caller can prove it by the clauses of [`last`], or of `broken_rule`.
 pub fn write_part<O: Offset>(offsets: &[O], from: usize, out: &mut [O])
     requires valid { AreOffsetsUpTo O.MAX (map O.value offsets.now) }
     requires some { 0 < length out.old }

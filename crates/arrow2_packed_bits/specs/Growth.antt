@@ -41,13 +41,13 @@ pub record Reserves {X T E : Type 0} (as_error : GrowthError → E) (r : Result 
   pub ok : OnOk r (length old + additional ≤ new_capacity)
   -- a usize counts the items
   pub fits : length old < 2 ^ 64
-  -- and they are within the capacity
+  -- and they are within the old capacity
   pub within_capacity : length old ≤ old_capacity
-  -- it overflows exactly where a usize cannot count that many more
+  -- it overflows exactly where a usize cannot count the items and `additional` more together
   pub overflow : IsErrOf r (as_error Overflow) ↔ (2 ^ 64 ≤ length old + additional)
   -- there is no other error but out of memory
   pub only : IfErr r (λ e. (e ≡ as_error Overflow) ⊎ (e ≡ as_error OutOfMemory))
-  -- within the capacity it succeeds
+  -- within the old capacity it succeeds
   pub succeeds : length old + additional ≤ old_capacity → IsOk r
   -- the capacity never falls
   pub capacity : old_capacity ≤ new_capacity

@@ -141,8 +141,9 @@ impl PackedBits {
     ///
     /// # Errors
     ///
-    /// `Overflow` exactly where there would be more than `usize::MAX` items, else `OutOfMemory` where an allocation
-    /// fails. After either error, the items are as before.
+    /// `Overflow` exactly where the length plus `additional` would pass `usize::MAX`. Else only `OutOfMemory`, and only
+    /// where the length plus `additional` passes the capacity. After either error, the items are as before. The
+    /// capacity never falls.
     pub fn reserve(&mut self, additional: usize) -> Result<(), GrowthError>
         ensures { Reserves (λ error. error) result self.old.items self.new.items additional
             self.old.capacity self.new.capacity }
