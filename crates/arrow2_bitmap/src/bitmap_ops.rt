@@ -23,9 +23,9 @@ use std::ops::{BitAnd, BitOr, BitXor, Not};
 
 /// Applies `op` to each row of words, and returns a bitmap of the first `len` bits of the results. A row has one word
 /// of 64 bits of each list of `rows`, all at the same index. The first item of a word is its lowest bit. Where fewer
-/// than 64 items are left for the last row, its words are padded with false. `rows` is, for example, `OneList { chunks:
-/// bitmap.chunks() }` of `arrow2_kernels`. Requires that each list has `len` items still to come, and that the
-/// `requires` of `op` holds for any words, not only for those of these lists.
+/// than 64 items are left for the last row, its words are padded with false. `rows` is, for example,
+/// `OneList { chunks: bitmap.chunks() }` of `arrow2_kernels`. Requires that each list has `len` items still to come,
+/// and that the `requires` of `op` holds for any words, not only for those of these lists.
 ///
 /// For any `op` the clauses state that the items are the bits of result words, and that each result word is one that
 /// the contract of `op` allows for the input words at its index. If the contract of `op` determines each result word

@@ -394,14 +394,14 @@ impl Bitmap {
         )
     }
 
-    /// Returns an iterator over the items by full words, of type `T`. The first item of a word is its lowest bit.
+    /// Returns an iterator that reads the items as full words of type `T`. The first item of a word is its lowest bit.
     ///
     /// The word that `remainder` returns has the items after the full words in its lowest bits. Its bits above these
     /// items are not cleared: mask it to `remainder_len` bits.
     ///
-    /// In the contract, `spill` is this word: the items after the full words, then stored bits that are no items, then
-    /// zeros, cut at the width of the word. The stored bits go on to the end of the byte of the last item where the
-    /// bitmap has a full word, else to the end of the storage.
+    /// In the contract, `spill` is this word. It has the items after the full words, then stored bits that are no
+    /// items, then zeros, and is cut at its width. If the bitmap has a full word, the stored bits end with the byte of
+    /// the last item. Otherwise they end with the storage.
     pub fn chunks<T: BitChunk>(&self) -> BitChunks<'_, T>
         ensures items { result.items ≡ items_of self.now }
         ensures fits { length (items_of self.now) < 2 ^ 64 }

@@ -369,8 +369,8 @@ impl MutableBitmap {
         BitmapIter::within(self.as_slice(), 0, self.len())
     }
 
-    /// Returns the capacity in items: eight times that of the vector of bytes, or `usize::MAX` where that is more. It
-    /// is at least the length. arrow2's capacity may wrap.
+    /// Returns the capacity in items: eight times the capacity of the vector of bytes, but at most `usize::MAX`. It is
+    /// at least the length. arrow2's capacity may wrap.
     pub fn capacity(&self) -> usize
         ensures capacity { result ≡ self.now.capacity }
         ensures within_capacity { length self.now.items ≤ result }

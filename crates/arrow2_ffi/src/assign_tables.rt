@@ -11,7 +11,8 @@ use crate::codes::{ARROW2_LENGTH, ARROW2_OK, ARROW2_RANGE};
 use crate::in_place::{assign_four, assign_three, assign_two};
 use arrow2_kernels::simd_assign::assign_unary;
 
-/// Replaces each of the first `length` bits `a` of `bytes` by bit `a` of `table`, a truth table of one input.
+/// Replaces each of the first `length` bits of `bytes` by bit `a` of `table`, a truth table of one input, where `a` is
+/// the old bit, 0 or 1.
 ///
 /// Returns `ARROW2_RANGE` exactly where `table` is above 3, else `ARROW2_LENGTH` exactly where the number of bytes of
 /// `bytes` is not the one that `length` bits need.
@@ -30,8 +31,8 @@ pub extern "C" fn arrow2_unary_assign_table(bytes: &mut [u8], length: usize, tab
     ARROW2_OK
 }
 
-/// Replaces each of the first `length` bits `a` of `bytes` by bit `a + 2 * b` of `table`, a truth table of two inputs,
-/// where `b` is the bit of `second` at the same index, counted from bit `second_offset` on.
+/// Replaces each bit `i` of `bytes`, for `i` below `length`, by bit `a + 2 * b` of `table`, a truth table of two
+/// inputs. `a` is the old bit `i`, and `b` is bit `second_offset + i` of `second`, each 0 or 1.
 ///
 /// Returns `ARROW2_RANGE` exactly where `table` is above 15 or the bits of the second input are not inside its bytes,
 /// else `ARROW2_LENGTH` exactly where the number of bytes of `bytes` is not the one that `length` bits need.

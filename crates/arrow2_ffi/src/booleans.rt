@@ -13,7 +13,7 @@ use arrow2_kernels::map::write_rows;
 /// Writes the booleans as bits to `out`, from bit 0 on. `out` must have exactly the number of bytes that hold these
 /// bits. Its padding bits become 0.
 ///
-/// Returns `ARROW2_LENGTH` exactly where `out` has another length.
+/// Returns `ARROW2_LENGTH` exactly where `out` has another number of bytes.
 #[unsafe(no_mangle)]
 pub extern "C" fn arrow2_pack(items: &[bool], out: &mut [u8]) -> u32
     ensures { WritesIf result (HasBytesForBits out.old (length items.now)) ARROW2_LENGTH

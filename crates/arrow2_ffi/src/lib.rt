@@ -1,10 +1,9 @@
-//! Functions of the memory layer of Apache Arrow for programs in other languages than Rattle: a static library that
+//! Functions of the memory layer of Apache Arrow for programs in languages other than Rattle: a static library that
 //! works in the caller's memory. No call allocates.
 //!
 //! In the docs of the calls, `length` bits from bit `offset` on are inside the bytes if the exact sum of `offset` and
-//! `length` is at most 8 times the number of bytes, also where `length` is 0. A call returns `ARROW2_OK` in each case
-//! for which its docs, or those of its module, name no other code. With another code it writes nothing but what they
-//! name.
+//! `length` is at most 8 times the number of bytes, also where `length` is 0. A call returns `ARROW2_OK` unless its
+//! docs, or those of its module, name another code for the case. With another code it writes only what these docs name.
 //!
 //! A caller in another language must also follow the rules of `docs/BINDINGS.md` on pointers, alignment, overlap,
 //! booleans and threads.

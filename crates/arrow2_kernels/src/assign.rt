@@ -27,7 +27,7 @@ pub fn assign_rows<T: BitChunk, S: WordRows<T>, F: Fn(T, S::Row) -> T>(
     requires exact { length bytes.old ≡ (len + 7) / 8 }
     // Padding bits are false.
     ensures canonical { IsCanonical bytes.new len }
-    // If the results of `op` are those of a mathematical function `f` of the own word, and then the words of the row:
+    // If `op` computes a mathematical function `f` of a list of words, first that of `bytes`, then those of the row:
     ensures items { (f : List ℕ → ℕ) →
         ComputesOwnRows T.WIDTH S.words T.number (F.post op) f →
         take len (bits bytes.new)

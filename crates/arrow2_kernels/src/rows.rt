@@ -131,7 +131,8 @@ impl<B: BitChunk, L: WordRows<B>, R: WordRows<B>> WordRows<B> for ZipRows<L, R> 
 }
 
 /// Rows of two lists, read by words of 64 bits, the word of the left list first. A `ZipRows` of two `Pair`s gives the
-/// rows of four lists. The type has no type parameters, since the Rattle kit rejects a `ZipRows` of two `ZipRows`.
+/// rows of four lists. It is a type of its own, without type parameters, since the Rattle kit rejects a `ZipRows` of
+/// two `ZipRows`.
 #[derive(Drop)]
 pub struct Pair<'a> {
     /// The lists.

@@ -143,7 +143,7 @@ impl<O: Offset> Offsets<O> {
     ///
     /// `Overflow` or `OutOfMemory`. `Overflow` is possible only if the iterator may yield lengths whose sum passes
     /// `O::MAX`. Where this sum passes it, one of the two comes. After either error, the iterator and the lengths so
-    /// far are dropped.
+    /// far are dropped; no clause states how far the iterator was read.
     pub fn try_from_lengths<I: Iterator<Item = usize> + Drop>(
         alloc: Global,
         lengths: I,

@@ -76,8 +76,9 @@ pub fn write_sums<O: Offset>(start: usize, lengths: &[usize], offsets: &mut [O])
 
 /// Sets each `out[i]` to `offsets[from + i] - offsets[from]`, so `out` begins at 0, and its lengths are those of the
 /// `out.len() - 1` slots from slot `from` on. Requires that the numbers are offsets, that `out` is not empty, and that
-/// `from + out.len()` is at most `offsets.len()`. The clause `valid` also requires that no offset is above `O::MAX`. No
-/// number of the type is; a caller can prove it by the clauses of [`last`], or of `broken_rule`.
+/// `from + out.len()` is at most `offsets.len()`. The clause `valid` also requires that no offset is above `O::MAX`.
+/// This holds for every number of type `O`, but a caller must prove it, for example by a clause of [`last`] or of
+/// `broken_rule`.
 pub fn write_part<O: Offset>(offsets: &[O], from: usize, out: &mut [O])
     requires valid { AreOffsetsUpTo O.MAX (map O.value offsets.now) }
     requires some { 0 < length out.old }

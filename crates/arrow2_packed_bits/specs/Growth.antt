@@ -37,7 +37,7 @@ pub record Pushes {T E : Type 0} (r : Result T E) (old new : GrowingBitmap) (mor
 pub record Reserves {X T E : Type 0} (as_error : GrowthError → E) (r : Result T E) (old new : List X) (additional old_capacity new_capacity : ℕ) : Type 0 where
   -- the items stay
   pub items : new ≡ old
-  -- after `Ok` that many more are within the capacity
+  -- after `Ok` that many more are within the new capacity
   pub ok : OnOk r (length old + additional ≤ new_capacity)
   -- a usize counts the items
   pub fits : length old < 2 ^ 64

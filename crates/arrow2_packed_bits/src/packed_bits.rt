@@ -96,8 +96,8 @@ impl PackedBits {
         self.length
     }
 
-    /// Returns the capacity in items: eight times that of the vector of bytes, or `usize::MAX` where that is more. It
-    /// is at least the number of items.
+    /// Returns the capacity in items: eight times the capacity of the vector of bytes, but at most `usize::MAX`. It is
+    /// at least the number of items.
     pub fn capacity(&self) -> usize
         ensures capacity { result ≡ self.now.capacity }
         ensures within_capacity { length self.now.items ≤ result }
