@@ -32,13 +32,11 @@ pub fn assign_rows<T: BitChunk, S: WordRows<T>, F: Fn(T, S::Row) -> T>(
         ComputesOwnRows T.WIDTH S.words T.number (F.post op) f →
         take len (bits bytes.new)
         ≡ own_kernel T.WIDTH f (take len (bits bytes.old)) (S.row_at rows) len }
-    // If `op` computes each bit by a truth table `t`, and `lists` are lists whose words are those of the rows: the
-    // items are the outputs of `t` for the old items and the items of `lists`.
+    // If `op` computes each bit by a truth table `t`, and the rows have the words of `lists`: the outputs of `t`.
     ensures table { (t : ℕ) (lists : List (List Bool)) →
         IsBitwiseOnOwnRows T.WIDTH S.words T.number (F.post op) t → AreWordsOf T.WIDTH lists (S.row_at rows) →
         take len (bits bytes.new) ≡ each t (take len (bits bytes.old) ∷ lists) }
-    // For any `op`: the word at each index is one that `op` may return for a word and a row with the words at this
-    // index.
+    // For any `op`: the word at each index is one that `op` may return for the word and the row at this index.
     ensures results { AreJoinedResults T.WIDTH len (λ j. MayReturnOwn T.WIDTH S.words T.number (F.post op)
         (word T.WIDTH (take len (bits bytes.old)) j) (S.row_at rows j)) (take len (bits bytes.new)) }
 {
