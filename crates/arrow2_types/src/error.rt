@@ -1,5 +1,6 @@
 //! The errors that the layer's calls return.
-ghost use Rattle.std.specs.Prelude.{◌≡◌, Some};
+ghost use Rattle.std.specs.Prelude.{◌≡◌, ◌++◌, Some, option_map};
+ghost use Rattle.std.specs.Fmt.{DisplaysOnOk};
 ghost use Rattle.arrow2_types.specs.declared.error.Error.TheVariants.{OutOfMemory, Io};
 
 use std::alloc::{AllocError, AllocFailed, Global};
@@ -90,16 +91,30 @@ impl fmt::Display for Error {
 
     fn fmt<W: fmt::Write>(&self, f: &mut fmt::Formatter<W>) -> fmt::Result {
         match self {
-            Error::NotYetImplemented(text) => write!(f, "Not yet implemented: {text}"),
+            Error::NotYetImplemented(text) => write_labelled(f, "Not yet implemented: ", text),
             Error::External(message, text) => write!(f, "External error{message}: {text}"),
-            Error::Io(error) => write!(f, "Io error: {error}"),
-            Error::InvalidArgumentError(text) => write!(f, "Invalid argument error: {text}"),
-            Error::ExternalFormat(text) => write!(f, "External format error: {text}"),
-            Error::Overflow => write!(f, "Operation overflew the backing container."),
-            Error::OutOfSpec(text) => write!(f, "{text}"),
-            Error::OutOfMemory => write!(f, "Out of memory"),
+            Error::Io(error) => write_labelled(f, "Io error: ", error),
+            Error::InvalidArgumentError(text) => {
+                write_labelled(f, "Invalid argument error: ", text)
+            }
+            Error::ExternalFormat(text) => write_labelled(f, "External format error: ", text),
+            Error::Overflow => f.write_str("Operation overflew the backing container."),
+            Error::OutOfSpec(text) => f.write_str(text.as_str()),
+            Error::OutOfMemory => f.write_str("Out of memory"),
         }
     }
+}
+
+/// Writes a label, and then a value.
+fn write_labelled<W: fmt::Write, T: fmt::Display>(
+    f: &mut fmt::Formatter<W>,
+    label: &str,
+    value: &T,
+) -> fmt::Result
+    ensures { DisplaysOnOk W.write_str_gives f.old result
+        (option_map (λ text. label.now ++ text) (T.output value.now)) f.new }
+{
+    write!(f, "{label}{value}")
 }
 
 impl std::error::Error for Error {}
