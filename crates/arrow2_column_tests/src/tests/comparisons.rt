@@ -3,10 +3,9 @@
 
 use super::checks::{assert_booleans, assert_that, ok};
 use super::kernels::{array_of, booleans, booleans_below, numbers_below, texts, texts_below};
-use arrow2::array::{BooleanArray, ByteArrayType, GenericByteArray, PrimitiveArray};
+use arrow2::array::{BinaryArray, BooleanArray, PrimitiveArray, Utf8Array};
 use arrow2::compute::comparison::{binary, boolean, eq, gt, gt_eq, lt, lt_eq, neq};
 use arrow2::error::Result;
-use arrow2::types::Offset;
 use std::alloc::Global;
 use std::cmp::Ordering;
 use std::process::Abort;
@@ -90,12 +89,12 @@ fn comparisons_of_numbers_agree_with_lists(rt: HostRuntime) {
     numbers_compare(&rt, alloc, left.as_slice(), right.as_slice());
 }
 
-/// Checks the six comparisons of two arrays of byte strings or of texts, whose items compare so.
-fn compares_binary<T: ByteArrayType, O: Offset>(
+/// Checks the six comparisons of two arrays of texts, whose items compare so.
+fn compares_texts(
     rt: &impl Abort,
     alloc: Global,
-    a: &GenericByteArray<T, O>,
-    b: &GenericByteArray<T, O>,
+    a: &Utf8Array<i32>,
+    b: &Utf8Array<i32>,
     orders: &[Option<Ordering>],
 ) {
     assert_that(rt, a.len() == b.len());
@@ -107,89 +106,46 @@ fn compares_binary<T: ByteArrayType, O: Offset>(
     is_compared(rt, alloc, binary::gt_eq(a, b), orders, (false, true, true));
 }
 
-/// Checks the comparisons with a byte string. `orders` lists how the items compare with it.
-fn compares_with_bytes<T: ByteArrayType, O: Offset>(
+/// Checks the comparisons of byte strings with one. `orders` lists how the items compare with it.
+fn compares_with_bytes(
     rt: &impl Abort,
     alloc: Global,
-    a: &GenericByteArray<T, O>,
+    a: &BinaryArray<i32>,
     bytes: &[u8],
     orders: &[Option<Ordering>],
 ) {
-    is_compared(
-        rt,
-        alloc,
-        binary::eq_scalar(a, bytes),
-        orders,
-        (false, true, false),
-    );
-    is_compared(
-        rt,
-        alloc,
-        binary::neq_scalar(a, bytes),
-        orders,
-        (true, false, true),
-    );
-    is_compared(
-        rt,
-        alloc,
-        binary::lt_scalar(a, bytes),
-        orders,
-        (true, false, false),
-    );
-    is_compared(
-        rt,
-        alloc,
-        binary::lt_eq_scalar(a, bytes),
-        orders,
-        (true, true, false),
-    );
-    is_compared(
-        rt,
-        alloc,
-        binary::gt_scalar(a, bytes),
-        orders,
-        (false, false, true),
-    );
-    is_compared(
-        rt,
-        alloc,
-        binary::gt_eq_scalar(a, bytes),
-        orders,
-        (false, true, true),
-    );
-    let equal = binary::compare_each(a, |value| value == bytes);
-    is_compared(rt, alloc, equal, orders, (false, true, false));
+    let call = binary::eq_scalar(a, bytes);
+    is_compared(rt, alloc, call, orders, (false, true, false));
+    let call = binary::neq_scalar(a, bytes);
+    is_compared(rt, alloc, call, orders, (true, false, true));
+    let call = binary::lt_scalar(a, bytes);
+    is_compared(rt, alloc, call, orders, (true, false, false));
+    let call = binary::lt_eq_scalar(a, bytes);
+    is_compared(rt, alloc, call, orders, (true, true, false));
+    let call = binary::gt_scalar(a, bytes);
+    is_compared(rt, alloc, call, orders, (false, false, true));
+    let call = binary::gt_eq_scalar(a, bytes);
+    is_compared(rt, alloc, call, orders, (false, true, true));
+    let call = binary::compare_each(a, |value| value == bytes);
+    is_compared(rt, alloc, call, orders, (false, true, false));
 }
 
-/// Checks the comparisons of texts and of byte strings of two lists of equal length.
-fn texts_compare<O: Offset>(
-    rt: &impl Abort,
-    alloc: Global,
-    left: &[Option<&str>],
-    right: &[Option<&str>],
-) {
-    let (a, b) = (texts::<O>(rt, alloc, left), texts::<O>(rt, alloc, right));
+/// Checks the comparisons of texts of two lists of equal length, and of byte strings with one.
+fn texts_compare(rt: &impl Abort, alloc: Global, left: &[Option<&str>], right: &[Option<&str>]) {
+    let (a, b) = (texts(rt, alloc, left), texts(rt, alloc, right));
     let list = orders(rt, alloc, left, right);
-    compares_binary(rt, alloc, &a, &b, list.as_slice());
-    let (c, d) = (ok(rt, a.to_binary()), ok(rt, b.to_binary()));
-    compares_binary(rt, alloc, &c, &d, list.as_slice());
+    compares_texts(rt, alloc, &a, &b, list.as_slice());
     let four = ok(rt, vec![in alloc; Some("four"); left.len()]);
     let list = orders(rt, alloc, left, four.as_slice());
-    compares_with_bytes(rt, alloc, &a, "four".as_bytes(), list.as_slice());
-    compares_with_bytes(rt, alloc, &c, "four".as_bytes(), list.as_slice());
+    let bytes = ok(rt, a.into_binary());
+    compares_with_bytes(rt, alloc, &bytes, "four".as_bytes(), list.as_slice());
 }
 
 /// Checks the comparisons of texts and of byte strings at a length.
-fn texts_compare_at<O: Offset>(
-    rt: &impl Abort,
-    alloc: Global,
-    len: usize,
-    nulls: usize,
-    others: usize,
-) {
+fn texts_compare_at(rt: &impl Abort, alloc: Global, len: usize, nulls: usize, others: usize) {
     let left = texts_below(rt, alloc, len, 1, nulls);
     let right = texts_below(rt, alloc, len, 3, others);
-    texts_compare::<O>(rt, alloc, left.as_slice(), right.as_slice());
+    texts_compare(rt, alloc, left.as_slice(), right.as_slice());
 }
 
 #[test]
@@ -197,12 +153,10 @@ fn comparisons_of_texts_agree_with_lists(rt: HostRuntime) {
     let alloc = rt.alloc();
     for len in 0..=300 {
         for (nulls, others) in [(0, 0), (3, 0), (0, 4), (2, 3)] {
-            texts_compare_at::<i32>(&rt, alloc, len, nulls, others);
-            texts_compare_at::<i64>(&rt, alloc, len, nulls, others);
+            texts_compare_at(&rt, alloc, len, nulls, others);
         }
     }
-    texts_compare_at::<i32>(&rt, alloc, 1_000_000, 3, 4);
-    texts_compare_at::<i64>(&rt, alloc, 1_000_000, 3, 4);
+    texts_compare_at(&rt, alloc, 1_000_000, 3, 4);
 }
 
 /// Checks the comparisons of each item with a boolean.
@@ -216,48 +170,18 @@ fn compares_with_boolean(
     let scalars = ok(rt, vec![in alloc; Some(scalar); items.len()]);
     let list = orders(rt, alloc, items, scalars.as_slice());
     let orders = list.as_slice();
-    is_compared(
-        rt,
-        alloc,
-        boolean::eq_scalar(a, scalar),
-        orders,
-        (false, true, false),
-    );
-    is_compared(
-        rt,
-        alloc,
-        boolean::neq_scalar(a, scalar),
-        orders,
-        (true, false, true),
-    );
-    is_compared(
-        rt,
-        alloc,
-        boolean::lt_scalar(a, scalar),
-        orders,
-        (true, false, false),
-    );
-    is_compared(
-        rt,
-        alloc,
-        boolean::lt_eq_scalar(a, scalar),
-        orders,
-        (true, true, false),
-    );
-    is_compared(
-        rt,
-        alloc,
-        boolean::gt_scalar(a, scalar),
-        orders,
-        (false, false, true),
-    );
-    is_compared(
-        rt,
-        alloc,
-        boolean::gt_eq_scalar(a, scalar),
-        orders,
-        (false, true, true),
-    );
+    let call = boolean::eq_scalar(a, scalar);
+    is_compared(rt, alloc, call, orders, (false, true, false));
+    let call = boolean::neq_scalar(a, scalar);
+    is_compared(rt, alloc, call, orders, (true, false, true));
+    let call = boolean::lt_scalar(a, scalar);
+    is_compared(rt, alloc, call, orders, (true, false, false));
+    let call = boolean::lt_eq_scalar(a, scalar);
+    is_compared(rt, alloc, call, orders, (true, true, false));
+    let call = boolean::gt_scalar(a, scalar);
+    is_compared(rt, alloc, call, orders, (false, false, true));
+    let call = boolean::gt_eq_scalar(a, scalar);
+    is_compared(rt, alloc, call, orders, (false, true, true));
 }
 
 /// Checks the comparisons of booleans of two lists of equal length.
@@ -270,21 +194,11 @@ fn booleans_compare(rt: &impl Abort, alloc: Global, left: &[Option<bool>], right
     is_compared(rt, alloc, boolean::eq(&a, &b), orders, (false, true, false));
     is_compared(rt, alloc, boolean::neq(&a, &b), orders, (true, false, true));
     is_compared(rt, alloc, boolean::lt(&a, &b), orders, (true, false, false));
-    is_compared(
-        rt,
-        alloc,
-        boolean::lt_eq(&a, &b),
-        orders,
-        (true, true, false),
-    );
+    let call = boolean::lt_eq(&a, &b);
+    is_compared(rt, alloc, call, orders, (true, true, false));
     is_compared(rt, alloc, boolean::gt(&a, &b), orders, (false, false, true));
-    is_compared(
-        rt,
-        alloc,
-        boolean::gt_eq(&a, &b),
-        orders,
-        (false, true, true),
-    );
+    let call = boolean::gt_eq(&a, &b);
+    is_compared(rt, alloc, call, orders, (false, true, true));
     compares_with_boolean(rt, alloc, &a, left, false);
     compares_with_boolean(rt, alloc, &a, left, true);
     compares_with_boolean(rt, alloc, &b, right, false);

@@ -6,7 +6,6 @@ use super::kernels::{booleans, booleans_below, texts_below};
 use arrow2::array::{BinaryArray, MutableBinaryArray, MutableUtf8Array, Utf8Array};
 use arrow2::compute::aggregate::{max_binary, max_boolean, min_binary, min_boolean};
 use arrow2::datatypes;
-use arrow2::types::Offset;
 use std::alloc::Global;
 use std::process::Abort;
 
@@ -22,12 +21,12 @@ fn values_of<T: Copy>(rt: &impl Abort, alloc: Global, items: &[Option<T>]) -> Ve
 }
 
 /// Returns the array of these items, a part of one that has an item before them, and an item and a null after them.
-fn texts_together<O: Offset>(
+fn texts_together(
     rt: &impl Abort,
     alloc: Global,
     items: &[Option<&str>],
-) -> Utf8Array<O> {
-    let mut array = ok(rt, MutableUtf8Array::<O>::new(alloc));
+) -> Utf8Array<i32> {
+    let mut array = ok(rt, MutableUtf8Array::<i32>::new(alloc));
     ok(rt, array.extend_from_slice(&["before"]));
     ok(rt, array.extend_from_options(items));
     ok(rt, array.extend_constant(1, Some("after")));
@@ -39,12 +38,12 @@ fn texts_together<O: Offset>(
 }
 
 /// Returns the array of these items, a part of one that has an item before them, and an item and a null after them.
-fn bytes_together<O: Offset>(
+fn bytes_together(
     rt: &impl Abort,
     alloc: Global,
     items: &[Option<&[u8]>],
-) -> BinaryArray<O> {
-    let mut array = ok(rt, MutableBinaryArray::<O>::new(alloc));
+) -> BinaryArray<i64> {
+    let mut array = ok(rt, MutableBinaryArray::<i64>::new(alloc));
     ok(rt, array.extend_from_slice(&[&[0xff, 0]]));
     ok(rt, array.extend_from_options(items));
     ok(rt, array.extend_constant(1, Some(&[7])));
@@ -114,7 +113,7 @@ fn extremes_of_booleans_agree_with_lists(rt: HostRuntime) {
 }
 
 /// Checks the items that an iterator over texts gives, and the values that are not null.
-fn texts_come_in_order<O: Offset>(rt: &impl Abort, array: &Utf8Array<O>, items: &[Option<&str>]) {
+fn texts_come_in_order(rt: &impl Abort, array: &Utf8Array<i32>, items: &[Option<&str>]) {
     let (mut iter, mut values) = (array.iter(), array.non_null_values_iter());
     assert_that(rt, iter.len() == items.len());
     for item in items {
@@ -126,9 +125,9 @@ fn texts_come_in_order<O: Offset>(rt: &impl Abort, array: &Utf8Array<O>, items: 
 }
 
 /// Checks the items that an iterator over texts gives from the last one on.
-fn texts_come_from_the_back<O: Offset>(
+fn texts_come_from_the_back(
     rt: &impl Abort,
-    array: &Utf8Array<O>,
+    array: &Utf8Array<i32>,
     items: &[Option<&str>],
 ) {
     let mut iter = array.iter();
@@ -138,10 +137,10 @@ fn texts_come_from_the_back<O: Offset>(
 }
 
 /// Checks texts of a length: their iterators, and the least and the greatest one.
-fn texts_agree<O: Offset>(rt: &impl Abort, alloc: Global, len: usize, nulls: usize) {
+fn texts_agree(rt: &impl Abort, alloc: Global, len: usize, nulls: usize) {
     let items = texts_below(rt, alloc, len, 1, nulls);
     let items = items.as_slice();
-    let array = texts_together::<O>(rt, alloc, items);
+    let array = texts_together(rt, alloc, items);
     texts_come_in_order(rt, &array, items);
     texts_come_from_the_back(rt, &array, items);
     let values = values_of(rt, alloc, items);
@@ -161,23 +160,22 @@ fn items_of_texts_agree_with_lists(rt: HostRuntime) {
     let alloc = rt.alloc();
     for len in 0..=300 {
         for nulls in [0, 1, 3] {
-            texts_agree::<i32>(&rt, alloc, len, nulls);
-            texts_agree::<i64>(&rt, alloc, len, nulls);
+            texts_agree(&rt, alloc, len, nulls);
         }
     }
-    texts_agree::<i32>(&rt, alloc, 1_000_000, 3);
-    texts_agree::<i64>(&rt, alloc, 1_000_000, 0);
+    texts_agree(&rt, alloc, 1_000_000, 0);
+    texts_agree(&rt, alloc, 1_000_000, 3);
 }
 
 /// Checks the least and the greatest of texts.
-fn extremes_are<O: Offset>(
+fn extremes_are(
     rt: &impl Abort,
     alloc: Global,
     items: &[Option<&str>],
     least: &str,
     greatest: &str,
 ) {
-    let texts = texts_together::<O>(rt, alloc, items);
+    let texts = texts_together(rt, alloc, items);
     assert_that(rt, min_binary(&texts) == Some(least.as_bytes()));
     assert_that(rt, max_binary(&texts) == Some(greatest.as_bytes()));
 }
@@ -186,18 +184,18 @@ fn extremes_are<O: Offset>(
 fn the_least_and_the_greatest_stand_anywhere(rt: HostRuntime) {
     let alloc = rt.alloc();
     let (a, ab, b) = (Some("a"), Some("ab"), Some("b"));
-    extremes_are::<i32>(&rt, alloc, &[ab, b, None, a, b], "a", "b");
-    extremes_are::<i64>(&rt, alloc, &[None, ab, a, ab, None], "a", "ab");
-    extremes_are::<i32>(&rt, alloc, &[a, ab, Some("é"), Some("z")], "a", "é");
-    extremes_are::<i64>(&rt, alloc, &[b, b], "b", "b");
-    extremes_are::<i64>(&rt, alloc, &[Some("z"), Some("é"), a], "a", "é");
+    extremes_are(&rt, alloc, &[ab, b, None, a, b], "a", "b");
+    extremes_are(&rt, alloc, &[None, ab, a, ab, None], "a", "ab");
+    extremes_are(&rt, alloc, &[a, ab, Some("é"), Some("z")], "a", "é");
+    extremes_are(&rt, alloc, &[b, b], "b", "b");
+    extremes_are(&rt, alloc, &[Some("z"), Some("é"), a], "a", "é");
 }
 
 #[test]
 fn bytes_come_from_both_ends(rt: HostRuntime) {
     let alloc = rt.alloc();
     let (a, b) = ([1, 2].as_slice(), [3].as_slice());
-    let array = bytes_together::<i64>(&rt, alloc, &[Some(b), None, Some(a)]);
+    let array = bytes_together(&rt, alloc, &[Some(b), None, Some(a)]);
     assert_list(
         &rt,
         array.iter().rev().collect(alloc),

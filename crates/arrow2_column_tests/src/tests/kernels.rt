@@ -26,7 +26,6 @@ use arrow2::compute::take::{
 };
 use arrow2::datatypes;
 use arrow2::error::Result;
-use arrow2::types::Offset;
 use std::alloc::{AllocError, Global};
 use std::convert::TryFrom;
 use std::process::Abort;
@@ -403,14 +402,14 @@ pub(super) fn texts_below(
 }
 
 /// Returns the array of these texts, a slice of a slice that begins after two others.
-pub(super) fn texts<O: Offset>(
+pub(super) fn texts(
     rt: &impl Abort,
     alloc: Global,
     items: &[Option<&str>],
-) -> Utf8Array<O>
+) -> Utf8Array<i32>
     ensures { length (binary_items result) ≡ length items.now }
 {
-    let mut array = ok(rt, MutableUtf8Array::<O>::new(alloc));
+    let mut array = ok(rt, MutableUtf8Array::<i32>::new(alloc));
     ok(rt, array.push(Some("before")));
     ok(rt, array.push(None));
     for item in items {
@@ -420,7 +419,7 @@ pub(super) fn texts<O: Offset>(
 }
 
 /// Returns the `len` texts after two others, which must be all: a slice of a slice.
-fn last_texts<O: Offset>(rt: &impl Abort, array: Utf8Array<O>, len: usize) -> Utf8Array<O>
+fn last_texts(rt: &impl Abort, array: Utf8Array<i32>, len: usize) -> Utf8Array<i32>
     ensures { length (binary_items result) ≡ len }
 {
     let array = without_first_text(rt, without_first_text(rt, array));
@@ -429,19 +428,19 @@ fn last_texts<O: Offset>(rt: &impl Abort, array: Utf8Array<O>, len: usize) -> Ut
 }
 
 /// Returns the texts after the first, which must be there.
-fn without_first_text<O: Offset>(rt: &impl Abort, array: Utf8Array<O>) -> Utf8Array<O> {
+fn without_first_text(rt: &impl Abort, array: Utf8Array<i32>) -> Utf8Array<i32> {
     let len = array.len();
     assert_that(rt, 1 <= len);
     array.sliced(1, len - 1)
 }
 
 /// Checks that an array was made, of these texts.
-fn has_texts<O: Offset>(rt: &impl Abort, call: Result<Utf8Array<O>>, items: &[Option<&str>]) {
+fn has_texts(rt: &impl Abort, call: Result<Utf8Array<i32>>, items: &[Option<&str>]) {
     are_texts(rt, &ok(rt, call), items);
 }
 
 /// Checks that an array has these texts.
-fn are_texts<O: Offset>(rt: &impl Abort, array: &Utf8Array<O>, items: &[Option<&str>]) {
+fn are_texts(rt: &impl Abort, array: &Utf8Array<i32>, items: &[Option<&str>]) {
     assert_that(rt, array.len() == items.len());
     for (index, item) in items.iter().enumerate() {
         assert!(rt; index < array.len() && array.get(index) == *item);
@@ -449,7 +448,7 @@ fn are_texts<O: Offset>(rt: &impl Abort, array: &Utf8Array<O>, items: &[Option<&
 }
 
 /// Checks that an array of byte strings was made, whose bytes are those of these texts.
-fn has_bytes<O: Offset>(rt: &impl Abort, call: Result<BinaryArray<O>>, items: &[Option<&str>]) {
+fn has_bytes(rt: &impl Abort, call: Result<BinaryArray<i32>>, items: &[Option<&str>]) {
     let array = ok(rt, call);
     assert_that(rt, array.len() == items.len());
     for (index, item) in items.iter().enumerate() {
@@ -459,7 +458,7 @@ fn has_bytes<O: Offset>(rt: &impl Abort, call: Result<BinaryArray<O>>, items: &[
 }
 
 /// Checks the kernels of texts and of byte strings on two lists of equal length.
-fn text_kernels_agree<O: Offset>(
+fn text_kernels_agree(
     rt: &impl Abort,
     alloc: Global,
     flags: &[bool],
@@ -469,7 +468,7 @@ fn text_kernels_agree<O: Offset>(
     requires left { length flags.now ≡ length left.now }
     requires right { length flags.now ≡ length right.now }
 {
-    let (a, b) = (texts::<O>(rt, alloc, left), texts::<O>(rt, alloc, right));
+    let (a, b) = (texts(rt, alloc, left), texts(rt, alloc, right));
     let (c, d) = (ok(rt, a.to_binary()), ok(rt, b.to_binary()));
     let mask = mask_of(rt, alloc, flags);
     let list = keep(rt, alloc, flags, left);
@@ -484,8 +483,8 @@ fn text_kernels_agree<O: Offset>(
 }
 
 /// Takes texts and byte strings at indices, and tells which of them are null.
-fn texts_are_taken<O: Offset>(rt: &impl Abort, alloc: Global, items: &[Option<&str>]) {
-    let a = texts::<O>(rt, alloc, items);
+fn texts_are_taken(rt: &impl Abort, alloc: Global, items: &[Option<&str>]) {
+    let a = texts(rt, alloc, items);
     let indices = indices_below(rt, alloc, items.len());
     let indices = indices.as_slice();
     assert_that(rt, !indices.iter().any(|index| *index >= a.len()));
@@ -501,13 +500,13 @@ fn texts_are_taken<O: Offset>(rt: &impl Abort, alloc: Global, items: &[Option<&s
 }
 
 /// Selects texts and byte strings by booleans, and takes them at indices, of which some are null.
-fn texts_are_taken_by_arrays<O: Offset>(
+fn texts_are_taken_by_arrays(
     rt: &impl Abort,
     alloc: Global,
     flags: &[bool],
     items: &[Option<&str>],
 ) {
-    let a = texts::<O>(rt, alloc, items);
+    let a = texts(rt, alloc, items);
     let bytes = ok(rt, a.to_binary());
     let (mask, list) = masked(rt, alloc, flags, items);
     assert_that(rt, mask.len() == a.len() && bytes.len() == a.len());
@@ -521,7 +520,7 @@ fn texts_are_taken_by_arrays<O: Offset>(
 }
 
 /// Checks the kernels of texts at a length.
-fn text_kernels_agree_at<O: Offset>(
+fn text_kernels_agree_at(
     rt: &impl Abort,
     alloc: Global,
     len: usize,
@@ -532,9 +531,9 @@ fn text_kernels_agree_at<O: Offset>(
     let right = texts_below(rt, alloc, len, 3, others);
     let flags = flags_of(rt, alloc, len);
     let (left, right) = (left.as_slice(), right.as_slice());
-    text_kernels_agree::<O>(rt, alloc, flags.as_slice(), left, right);
-    texts_are_taken::<O>(rt, alloc, left);
-    texts_are_taken_by_arrays::<O>(rt, alloc, flags.as_slice(), left);
+    text_kernels_agree(rt, alloc, flags.as_slice(), left, right);
+    texts_are_taken(rt, alloc, left);
+    texts_are_taken_by_arrays(rt, alloc, flags.as_slice(), left);
 }
 
 #[test]
@@ -542,12 +541,11 @@ fn kernels_of_texts_agree_with_lists(rt: HostRuntime) {
     let alloc = rt.alloc();
     for len in 0..=300 {
         for (nulls, others) in [(0, 0), (3, 0), (0, 4), (2, 3)] {
-            text_kernels_agree_at::<i32>(&rt, alloc, len, nulls, others);
-            text_kernels_agree_at::<i64>(&rt, alloc, len, nulls, others);
+            text_kernels_agree_at(&rt, alloc, len, nulls, others);
         }
     }
-    text_kernels_agree_at::<i32>(&rt, alloc, 1_000_000, 3, 0);
-    text_kernels_agree_at::<i64>(&rt, alloc, 1_000_000, 0, 4);
+    text_kernels_agree_at(&rt, alloc, 1_000_000, 3, 0);
+    text_kernels_agree_at(&rt, alloc, 1_000_000, 0, 4);
 }
 
 /// Returns the booleans at the indices below `len`, of which about one in `period` is true, null at each index that
