@@ -10,14 +10,14 @@ ghost use Rattle.arrow2_text.specs.Binary.{binary_items};
 ghost use Rattle.arrow2_walks.specs.Selections.{non_null_values};
 
 use arrow2_array::BooleanArray;
-use arrow2_index::Offset;
+use arrow2_index::OffsetNumber;
 use arrow2_text::{ByteArrayType, GenericByteArray};
 
 /// Returns the bytes of the least of the items that are not null, or `None` where each item is null. The order is that
 /// of [`crate::comparison::binary`]: the first bytes that differ decide, else the lengths. Does not allocate.
 ///
 /// Stands for arrow2's `min_binary` and `min_string`.
-pub fn min_binary<T: ByteArrayType, O: Offset>(array: &GenericByteArray<T, O>) -> Option<&[u8]>
+pub fn min_binary<T: ByteArrayType, O: OffsetNumber>(array: &GenericByteArray<T, O>) -> Option<&[u8]>
     ensures { IsExtremum (λ x y. IsTrue (partial_le bytes_cmp x y)) (binary_items array.now)
         (option_copied result) }
 {
@@ -28,7 +28,7 @@ pub fn min_binary<T: ByteArrayType, O: Offset>(array: &GenericByteArray<T, O>) -
 /// that of [`crate::comparison::binary`]: the first bytes that differ decide, else the lengths. Does not allocate.
 ///
 /// Stands for arrow2's `max_binary` and `max_string`.
-pub fn max_binary<T: ByteArrayType, O: Offset>(array: &GenericByteArray<T, O>) -> Option<&[u8]>
+pub fn max_binary<T: ByteArrayType, O: OffsetNumber>(array: &GenericByteArray<T, O>) -> Option<&[u8]>
     ensures { IsExtremum (λ x y. IsTrue (partial_ge bytes_cmp x y)) (binary_items array.now)
         (option_copied result) }
 {
@@ -37,7 +37,7 @@ pub fn max_binary<T: ByteArrayType, O: Offset>(array: &GenericByteArray<T, O>) -
 
 /// Combines the items that are not null by `C::of_two`, from the first to the last. Returns `None` where each item is
 /// null.
-fn best_item<T: ByteArrayType, O: Offset, C: Choice>(
+fn best_item<T: ByteArrayType, O: OffsetNumber, C: Choice>(
     array: &GenericByteArray<T, O>,
 ) -> Option<&[u8]>
     ensures { option_copied result

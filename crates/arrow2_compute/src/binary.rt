@@ -4,12 +4,12 @@ ghost use Rattle.arrow2_compute.specs.Sizes.{AppendsItem, binary_item, slot_byte
 ghost use Rattle.arrow2_text.specs.Binary.{binary_items, binary_values, slots_between};
 ghost use Rattle.arrow2_types.specs.Failures.{OnlyOutOfMemory};
 
-use arrow2_index::Offset;
+use arrow2_index::OffsetNumber;
 use arrow2_text::{ByteArrayType, GenericByteArray, MutableGenericByteArray};
 use arrow2_types::Result;
 
 /// Returns the number of items, nulls too. The slots together have at most `O::MAX` bytes.
-pub(crate) fn count<T: ByteArrayType, O: Offset>(array: &GenericByteArray<T, O>) -> usize
+pub(crate) fn count<T: ByteArrayType, O: OffsetNumber>(array: &GenericByteArray<T, O>) -> usize
     ensures items { result ≡ length (binary_items array.now) }
     ensures values { result ≡ length (binary_values array.now) }
     ensures slots { result ≡ slots_between array.now.offsets }
@@ -22,7 +22,7 @@ pub(crate) fn count<T: ByteArrayType, O: Offset>(array: &GenericByteArray<T, O>)
 
 /// Returns the array of the same slots, over the same storage, none of them null. Does not allocate. The only error is
 /// `OutOfMemory`: in the code only if a reference count would overflow.
-pub(crate) fn without_validity<T: ByteArrayType, O: Offset>(
+pub(crate) fn without_validity<T: ByteArrayType, O: OffsetNumber>(
     array: &GenericByteArray<T, O>,
 ) -> Result<GenericByteArray<T, O>>
     ensures value { IfOk result (λ a. a ≡ with_bitmap array.now None) }
@@ -33,7 +33,7 @@ pub(crate) fn without_validity<T: ByteArrayType, O: Offset>(
 
 /// Returns an array without items, of the same logical type, with capacity for at least `capacity` items. The only
 /// error is `OutOfMemory`. Requires that `capacity` is at most the number of items.
-pub(crate) fn like<T: ByteArrayType, O: Offset>(
+pub(crate) fn like<T: ByteArrayType, O: OffsetNumber>(
     array: &GenericByteArray<T, O>,
     capacity: usize,
 ) -> Result<MutableGenericByteArray<T, O>>
@@ -51,7 +51,7 @@ pub(crate) fn like<T: ByteArrayType, O: Offset>(
 
 /// Appends item `index` of `array`. The errors are those of `MutableGenericByteArray::push_bytes`. Requires that
 /// `index` is below the length of `array`.
-pub(crate) fn push_item<T: ByteArrayType, O: Offset>(
+pub(crate) fn push_item<T: ByteArrayType, O: OffsetNumber>(
     grown: &mut MutableGenericByteArray<T, O>,
     array: &GenericByteArray<T, O>,
     index: usize,

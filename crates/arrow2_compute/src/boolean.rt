@@ -9,7 +9,7 @@ ghost use Rattle.arrow2_types.specs.Failures.{OnlyOutOfMemory};
 
 use arrow2_array::BooleanArray;
 use arrow2_bitmap::{Bitmap, MutableBitmap};
-use arrow2_index::Offset;
+use arrow2_index::OffsetNumber;
 use arrow2_primitive::PrimitiveArray;
 use arrow2_text::{ByteArrayType, GenericByteArray};
 use arrow2_types::{NativeType, Result};
@@ -62,7 +62,7 @@ impl Nullable for BooleanArray {
     }
 }
 
-impl<T: ByteArrayType, O: Offset> Nullable for GenericByteArray<T, O> {
+impl<T: ByteArrayType, O: OffsetNumber> Nullable for GenericByteArray<T, O> {
     ghost stored = { λ a. a.validity };
 
     ghost known = { λ a. map is_some (binary_items a) };

@@ -9,7 +9,7 @@ ghost use Rattle.arrow2_types.specs.Failures.{OnlyOverflowOrOutOfMemory};
 
 use crate::binary::{count, like};
 use arrow2_array::{BooleanArray, MutableBooleanArray};
-use arrow2_index::Offset;
+use arrow2_index::OffsetNumber;
 use arrow2_primitive::{MutablePrimitiveArray, PrimitiveArray};
 use arrow2_text::{ByteArrayType, GenericByteArray};
 use arrow2_types::{Error, NativeType, Result};
@@ -56,7 +56,7 @@ pub fn concatenate<T: NativeType>(
 /// If all slots together, null slots too, have more bytes than an offset of the arrays can count, or if a `usize`
 /// cannot count the items, it fails with `Overflow` or `OutOfMemory`. Otherwise the only error is `OutOfMemory`.
 #[tactic(auto, using(crate::proofs::KernelLoops::joining))]
-pub fn concatenate_binary<T: ByteArrayType, O: Offset>(
+pub fn concatenate_binary<T: ByteArrayType, O: OffsetNumber>(
     first: &GenericByteArray<T, O>,
     others: &[&GenericByteArray<T, O>],
 ) -> Result<GenericByteArray<T, O>>

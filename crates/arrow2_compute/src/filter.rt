@@ -17,7 +17,7 @@ use arrow2_bitmap::bitmap_ops::and;
 use arrow2_bitmap::{Bitmap, MutableBitmap};
 use arrow2_buffer::Buffer;
 use arrow2_chunk::{BitChunk, BitChunkOnes};
-use arrow2_index::Offset;
+use arrow2_index::OffsetNumber;
 use arrow2_numeric::MaskedBlocks;
 use arrow2_primitive::PrimitiveArray;
 use arrow2_text::{ByteArrayType, GenericByteArray};
@@ -183,7 +183,7 @@ fn true_items(mask: &BooleanArray) -> Result<Bitmap>
 /// # Errors
 ///
 /// Only `OutOfMemory`.
-pub fn filter_binary<T: ByteArrayType, O: Offset>(
+pub fn filter_binary<T: ByteArrayType, O: OffsetNumber>(
     array: &GenericByteArray<T, O>,
     mask: &Bitmap,
 ) -> Result<GenericByteArray<T, O>>
@@ -214,7 +214,7 @@ pub fn filter_binary<T: ByteArrayType, O: Offset>(
 /// # Errors
 ///
 /// Only `OutOfMemory`.
-pub fn filter_binary_by_array<T: ByteArrayType, O: Offset>(
+pub fn filter_binary_by_array<T: ByteArrayType, O: OffsetNumber>(
     array: &GenericByteArray<T, O>,
     mask: &BooleanArray,
 ) -> Result<GenericByteArray<T, O>>
@@ -232,7 +232,7 @@ pub fn filter_binary_by_array<T: ByteArrayType, O: Offset>(
 }
 
 /// Returns the items at whose index the mask is true, copied run by run. Requires that both have equal lengths.
-fn selected_slots<T: ByteArrayType, O: Offset>(
+fn selected_slots<T: ByteArrayType, O: OffsetNumber>(
     array: &GenericByteArray<T, O>,
     mask: &Bitmap,
 ) -> Result<GenericByteArray<T, O>>

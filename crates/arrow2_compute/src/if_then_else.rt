@@ -14,7 +14,7 @@ use arrow2_array::BooleanArray;
 use arrow2_bitmap::Bitmap;
 use arrow2_bitmap::bitmap_ops::{and, binary_table, or};
 use arrow2_buffer::Buffer;
-use arrow2_index::Offset;
+use arrow2_index::OffsetNumber;
 use arrow2_primitive::PrimitiveArray;
 use arrow2_text::{ByteArrayType, GenericByteArray, MutableGenericByteArray};
 use arrow2_types::{Error, NativeType, Result};
@@ -133,7 +133,7 @@ fn chosen_bits(mask: &Bitmap, lhs: &Bitmap, rhs: &Bitmap) -> Result<Bitmap>
 /// If the chosen items together have more bytes than an offset of the arrays can count, it fails with `Overflow` or
 /// `OutOfMemory`. Otherwise the only error is `OutOfMemory`.
 #[tactic(auto, using(crate::proofs::ByteCounts::weighed))]
-pub fn if_then_else_binary<T: ByteArrayType, O: Offset>(
+pub fn if_then_else_binary<T: ByteArrayType, O: OffsetNumber>(
     mask: &Bitmap,
     lhs: &GenericByteArray<T, O>,
     rhs: &GenericByteArray<T, O>,
@@ -164,7 +164,7 @@ pub fn if_then_else_binary<T: ByteArrayType, O: Offset>(
 
 /// Appends item `position` of `lhs` where `is_left`, else item `position` of `rhs`. Requires that `position` is below
 /// the length of both.
-fn push_either<T: ByteArrayType, O: Offset>(
+fn push_either<T: ByteArrayType, O: OffsetNumber>(
     grown: &mut MutableGenericByteArray<T, O>,
     is_left: bool,
     lhs: &GenericByteArray<T, O>,

@@ -15,7 +15,7 @@ use crate::binary::{count, like, push_item};
 use arrow2_array::BooleanArray;
 use arrow2_bitmap::Bitmap;
 use arrow2_buffer::Buffer;
-use arrow2_index::{Index, Offset};
+use arrow2_index::{Index, OffsetNumber};
 use arrow2_primitive::PrimitiveArray;
 use arrow2_text::{ByteArrayType, GenericByteArray, MutableGenericByteArray};
 use arrow2_types::{Error, NativeType, Result};
@@ -189,7 +189,7 @@ fn item_at<T: NativeType, I: Index>(array: &PrimitiveArray<T>, index: Option<I>)
 /// If the taken items together have more bytes than an offset of the array can count, it fails with `Overflow` or
 /// `OutOfMemory`. Otherwise the only error is `OutOfMemory`.
 #[tactic(auto, using(crate::proofs::ByteCounts::weighed))]
-pub fn take_binary<T: ByteArrayType, O: Offset>(
+pub fn take_binary<T: ByteArrayType, O: OffsetNumber>(
     array: &GenericByteArray<T, O>,
     indices: &[usize],
 ) -> Result<GenericByteArray<T, O>>
@@ -227,7 +227,7 @@ pub fn take_binary<T: ByteArrayType, O: Offset>(
 /// If the taken items together have more bytes than an offset of the array can count, it fails with `Overflow` or
 /// `OutOfMemory`. Otherwise the only error is `OutOfMemory`.
 #[tactic(auto, using(crate::proofs::ByteCounts::weighed))]
-pub fn take_binary_by_array<T: ByteArrayType, O: Offset, I: Index>(
+pub fn take_binary_by_array<T: ByteArrayType, O: OffsetNumber, I: Index>(
     array: &GenericByteArray<T, O>,
     indices: &PrimitiveArray<I>,
 ) -> Result<GenericByteArray<T, O>>
@@ -255,7 +255,7 @@ pub fn take_binary_by_array<T: ByteArrayType, O: Offset, I: Index>(
 
 /// Appends the item of `array` at an index, or a null where the index is null. Requires that the index is null, or at
 /// least 0 and below the length.
-fn push_item_or_null<T: ByteArrayType, O: Offset, I: Index>(
+fn push_item_or_null<T: ByteArrayType, O: OffsetNumber, I: Index>(
     grown: &mut MutableGenericByteArray<T, O>,
     array: &GenericByteArray<T, O>,
     index: Option<I>,

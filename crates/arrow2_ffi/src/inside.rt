@@ -6,7 +6,7 @@ ghost use Rattle.arrow2_ffi.specs.Cuts.{IsFirstFalling, IsFirstPast, ChecksOffse
 
 use crate::codes::{ARROW2_OK, ARROW2_PAST, ARROW2_SPEC_FALLING, ARROW2_UTF8};
 use crate::offsets::calls::error_code;
-use arrow2_index::Offset;
+use arrow2_index::OffsetNumber;
 use arrow2_offset::slices::last;
 use arrow2_utf8::{BrokenTextArray, BrokenTexts, try_check_offsets_and_utf8};
 
@@ -14,7 +14,7 @@ use arrow2_utf8::{BrokenTextArray, BrokenTexts, try_check_offsets_and_utf8};
 /// else `ARROW2_PAST` exactly where the last one is above `items`. With `ARROW2_SPEC_FALLING` writes the index of the
 /// first number that is below the one before it, with `ARROW2_PAST` the index of the first number above `items`. With
 /// any other code writes nothing.
-pub(crate) fn check_inside<O: Offset>(offsets: &[O], items: usize, index: &mut usize) -> u32
+pub(crate) fn check_inside<O: OffsetNumber>(offsets: &[O], items: usize, index: &mut usize) -> u32
     ensures { ChecksOffsets result (map O.value offsets.now) items index.old index.new }
 {
     if let Some(code) = error_code(offsets) {
@@ -34,7 +34,7 @@ pub(crate) fn check_inside<O: Offset>(offsets: &[O], items: usize, index: &mut u
 /// UTF-8. Where the code of `check_inside` is not `ARROW2_OK`, returns this code, and writes what that call writes.
 /// Else returns `ARROW2_UTF8` exactly where a slot is not UTF-8, and writes the first such slot. With `ARROW2_OK`
 /// writes nothing.
-pub(crate) fn check_texts<O: Offset>(offsets: &[O], values: &[u8], index: &mut usize) -> u32
+pub(crate) fn check_texts<O: OffsetNumber>(offsets: &[O], values: &[u8], index: &mut usize) -> u32
     ensures { ChecksTexts result (map O.value offsets.now) values.now index.old index.new }
 {
     match try_check_offsets_and_utf8(offsets, values) {
@@ -51,7 +51,7 @@ pub(crate) fn check_texts<O: Offset>(offsets: &[O], values: &[u8], index: &mut u
 }
 
 /// Returns the index of the first number that is below the one before it, or the length of `offsets` if there is none.
-fn first_falling<O: Offset>(offsets: &[O]) -> usize
+fn first_falling<O: OffsetNumber>(offsets: &[O]) -> usize
     // `before`: no number at an index below the result is below the one before it. `found`: if the result is an index,
     // the number there is the first that is below the one before it. So without such a number the result is the length.
     ensures before { (k : ℕ) → k + 1 < result → slice_index_or (map O.value offsets.now) k (pos 0)
@@ -69,7 +69,7 @@ fn first_falling<O: Offset>(offsets: &[O]) -> usize
 
 /// Returns the index of the first offset that is above `items`. Requires that the numbers are offsets, and that the
 /// last one is above `items`.
-fn first_past<O: Offset>(offsets: &[O], items: usize) -> usize
+fn first_past<O: OffsetNumber>(offsets: &[O], items: usize) -> usize
     requires valid { AreOffsets (map O.value offsets.now) }
     requires past { items < last_of (map O.value offsets.now) }
     ensures { IsFirstPast (map O.value offsets.now) items result }

@@ -5,4 +5,4 @@ mod index;
 mod offset;
 
 pub use index::{Index, IndexRange};
-pub use offset::Offset;
+pub use offset::{Offset, OffsetNumber};

@@ -9,7 +9,7 @@ ghost use Rattle.arrow2_offset.specs.Lengths.{LengthenedBy};
 ghost use Rattle.arrow2_offset.specs.NewOffsets.{offsets_of_vec};
 ghost use Rattle.arrow2_types.specs.declared.growth_error.GrowthError.TheVariants as growth_error;
 
-use arrow2_index::Offset;
+use arrow2_index::OffsetNumber;
 use arrow2_types::GrowthError;
 use std::alloc::AllocError;
 use std::mem;
@@ -30,7 +30,7 @@ const SECOND_CAPACITY: usize = 512;
 ///
 /// `Overflow` or `OutOfMemory`. `Overflow` is possible only if the iterator may yield lengths whose sum, added to the
 /// last offset, passes `O::MAX`; `OutOfMemory` only if it may yield more lengths than the spare capacity.
-pub(crate) fn append_lengths<O: Offset, I: Iterator<Item = usize> + Drop>(
+pub(crate) fn append_lengths<O: OffsetNumber, I: Iterator<Item = usize> + Drop>(
     offsets: &mut Vec<O>,
     lengths: I,
 ) -> Result<(), GrowthError>
@@ -58,7 +58,7 @@ pub(crate) fn append_lengths<O: Offset, I: Iterator<Item = usize> + Drop>(
 /// exact, in a type wider than `O`, and never falls. If a sum is at most `O::MAX`, so are all sums before it. So the
 /// sum is compared with `O::MAX` only before capacity is reserved, and after the loop.
 #[inline(never)]
-fn append_sums<O: Offset, I: Iterator<Item = usize> + Drop>(
+fn append_sums<O: OffsetNumber, I: Iterator<Item = usize> + Drop>(
     mut offsets: Vec<O>,
     lengths: I,
 ) -> (Vec<O>, Result<(), GrowthError>)
@@ -84,7 +84,7 @@ fn append_sums<O: Offset, I: Iterator<Item = usize> + Drop>(
     ensures capacity { vec_capacity offsets ≤ vec_capacity result.0 }
 {
     let greatest = O::MAX as u128;
-    let mut last = offsets[offsets.len() - 1].to_usize() as u128;
+    let mut last = offsets[offsets.len() - 1].as_usize() as u128;
     for length in lengths {
         last += length as u128;
         if offsets.len() == offsets.capacity() {

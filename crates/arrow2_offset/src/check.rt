@@ -3,7 +3,7 @@ ghost use Rattle.std.specs.Prelude.{◌≡◌, ℕ, ◌+◌, ◌<◌, ◌≤ℤ�
 ghost use Rattle.arrow2_offset.specs.Offsets.{AreOffsets, AreOffsetsUpTo};
 ghost use Rattle.arrow2_offset.specs.Failures.{IsOutOfSpecOrOutOfMemory, first_broken_rule, rule_words, not_offsets_message};
 
-use arrow2_index::Offset;
+use arrow2_index::OffsetNumber;
 use arrow2_types::{Error, Result};
 use std::alloc::{AllocError, Global};
 
@@ -23,7 +23,7 @@ pub enum BrokenRule {
 /// Returns the first rule that the numbers break, or `None` where they are offsets. Does not allocate.
 ///
 /// In arrow2 the test is private, and returns an error with a text.
-pub fn broken_rule<O: Offset>(offsets: &[O]) -> Option<BrokenRule>
+pub fn broken_rule<O: OffsetNumber>(offsets: &[O]) -> Option<BrokenRule>
     // `O.MAX` adds nothing: no number of the type is above it.
     ensures none { IfNone result (AreOffsetsUpTo O.MAX (map O.value offsets.now)) }
     ensures accepted { AreOffsets (map O.value offsets.now) → IsNone result }
@@ -32,20 +32,20 @@ pub fn broken_rule<O: Offset>(offsets: &[O]) -> Option<BrokenRule>
     if offsets.is_empty() {
         return Some(BrokenRule::Empty);
     }
-    if offsets[0] < O::zero() {
+    if offsets[0] < O::usize_as(0) {
         return Some(BrokenRule::Negative);
     }
     if !is_rising(offsets) {
         return Some(BrokenRule::Falling);
     }
     // For the proof alone: reading the last number brings the fact that it is at most `O::MAX`.
-    let _last = offsets[offsets.len() - 1].to_usize();
+    let _last = offsets[offsets.len() - 1].as_usize();
     None
 }
 
 /// Returns an error exactly where the items are not offsets: `OutOfSpec` with the text of the first rule that they
 /// break, or `OutOfMemory`.
-pub(crate) fn try_check_offsets<O: Offset>(alloc: Global, offsets: &[O]) -> Result<()>
+pub(crate) fn try_check_offsets<O: OffsetNumber>(alloc: Global, offsets: &[O]) -> Result<()>
     ensures ok { OnOk result (AreOffsetsUpTo O.MAX (map O.value offsets.now)) }
     ensures accepted { AreOffsets (map O.value offsets.now) → IsOk result }
     ensures rejected { IfErr result (λ e.
@@ -79,7 +79,7 @@ fn out_of_spec(alloc: Global, text: &str) -> Error
 }
 
 /// Returns whether no item is below the one before it. Reads all items, without a branch.
-fn is_rising<O: Offset>(offsets: &[O]) -> bool
+fn is_rising<O: OffsetNumber>(offsets: &[O]) -> bool
     ensures { IsTrue result ↔ ((k : ℕ) → k + 1 < length offsets.now →
         slice_index_or (map O.value offsets.now) k (pos 0) ≤ℤ slice_index_or
         (map O.value offsets.now) (k + 1) (pos 0)) }

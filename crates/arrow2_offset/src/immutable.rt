@@ -15,7 +15,7 @@ use crate::iterator::Lengths;
 use crate::mutable::Offsets;
 use crate::slot::slot_span;
 use arrow2_buffer::Buffer;
-use arrow2_index::Offset;
+use arrow2_index::OffsetNumber;
 use arrow2_types::{Error, Result};
 use either::Either;
 use std::alloc::{AllocError, Global};
@@ -40,11 +40,11 @@ use std::ops::Index;
 /// assert!(rt; offsets.start_end(2) == (3, 7));
 /// ```
 #[derive(Debug, Drop)]
-pub struct OffsetsBuffer<O: Offset> {
+pub struct OffsetsBuffer<O: OffsetNumber> {
     buffer: Buffer<O>,
 }
 
-impl<O: Offset> Model for OffsetsBuffer<O> {
+impl<O: OffsetNumber> Model for OffsetsBuffer<O> {
     ghost use Rattle.std.specs.Prelude.{ℤ};
     ghost use Rattle.arrow2_model.specs.Lists.{BufferStorage, buffer_items};
     ghost use Rattle.arrow2_offset.specs.Offsets.{AreOffsetsUpTo, numbers_of};
@@ -57,7 +57,7 @@ impl<O: Offset> Model for OffsetsBuffer<O> {
 }
 
 #[tactic(auto, using(crate::proofs::BufferParts::frozen))]
-impl<O: Offset> OffsetsBuffer<O> {
+impl<O: OffsetNumber> OffsetsBuffer<O> {
     /// Returns the offsets of no slot: the single offset 0.
     ///
     /// # Errors
@@ -155,7 +155,7 @@ impl<O: Offset> OffsetsBuffer<O> {
             - start_of (buffer_items self.now)) }
         ensures lengths { O.value result ≡ pos (sum (lengths_of (buffer_items self.now))) }
     {
-        O::from_as_usize(self.first().distance_to(*self.last()))
+        O::usize_as(self.first().distance(*self.last()))
     }
 
     /// Returns the first offset.
@@ -278,7 +278,7 @@ impl<O: Offset> OffsetsBuffer<O> {
 /// Exactly where the items are not offsets: `OutOfSpec` with the text of the first rule of
 /// [`BrokenRule`](crate::BrokenRule) that they break, or `OutOfMemory`. In the code `OutOfMemory` comes only if that
 /// text cannot be allocated; no clause states that. After either error the buffer is dropped.
-impl<O: Offset> TryFrom<Buffer<O>> for OffsetsBuffer<O> {
+impl<O: OffsetNumber> TryFrom<Buffer<O>> for OffsetsBuffer<O> {
     type Error = Error;
 
     ghost try_from_gives = { λ buffer r. MatchResult r (λ b. AreOffsets (buffer_items b)
@@ -299,7 +299,7 @@ impl<O: Offset> TryFrom<Buffer<O>> for OffsetsBuffer<O> {
 /// that they break, or `OutOfMemory`. Where they are offsets: only `OutOfMemory`. In the code `OutOfMemory` comes only
 /// if that text, or the `Rc` of the storage, cannot be allocated; no clause states that. After an error the vector is
 /// dropped.
-impl<O: Offset> TryFrom<Vec<O>> for OffsetsBuffer<O> {
+impl<O: OffsetNumber> TryFrom<Vec<O>> for OffsetsBuffer<O> {
     type Error = Error;
 
     ghost try_from_gives = { λ vector r. MatchResult r (λ b. AreOffsets (buffer_items b)
@@ -319,7 +319,7 @@ impl<O: Offset> TryFrom<Vec<O>> for OffsetsBuffer<O> {
 ///
 /// Only `OutOfMemory`. In the code it comes only where the `Rc` of the storage cannot be allocated; no clause states
 /// that. After an error the offsets are dropped.
-impl<O: Offset> TryFrom<Offsets<O>> for OffsetsBuffer<O> {
+impl<O: OffsetNumber> TryFrom<Offsets<O>> for OffsetsBuffer<O> {
     type Error = Error;
 
     ghost try_from_gives = { λ from r. MatchResult r (λ b.
@@ -334,7 +334,7 @@ impl<O: Offset> TryFrom<Offsets<O>> for OffsetsBuffer<O> {
 }
 
 /// Returns the offset at an index. Requires that the index is below the number of offsets.
-impl<O: Offset> Index<usize> for OffsetsBuffer<O> {
+impl<O: OffsetNumber> Index<usize> for OffsetsBuffer<O> {
     type Output = O;
 
     ghost can_index = { λ b position. position < length (buffer_items b) };
@@ -352,7 +352,7 @@ impl<O: Offset> Index<usize> for OffsetsBuffer<O> {
 /// # Errors
 ///
 /// `AllocError`. The code returns it only if the reference count would overflow; no clause states that.
-impl<O: Offset> Clone for OffsetsBuffer<O> {
+impl<O: OffsetNumber> Clone for OffsetsBuffer<O> {
     ghost is_clone = { λ b copy. copy ≡ b };
 
     fn clone(&self) -> std::result::Result<Self, AllocError> {
@@ -363,7 +363,7 @@ impl<O: Offset> Clone for OffsetsBuffer<O> {
 }
 
 /// Two `OffsetsBuffer`s are equal exactly if their lists of offsets are, whatever their storage is.
-impl<O: Offset> PartialEq for OffsetsBuffer<O> {
+impl<O: OffsetNumber> PartialEq for OffsetsBuffer<O> {
     ghost eq = { on buffer_items (pointwise int_eq) };
 
     // The proof that `eq` is symmetric and transitive.

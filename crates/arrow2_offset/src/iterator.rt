@@ -5,7 +5,7 @@ ghost use Rattle.std.specs.Iterator.SizeHint.{IsWithinCount};
 ghost use Rattle.arrow2_offset.specs.Offsets.{AreOffsets, lengths_of};
 
 use crate::slot::slot_span;
-use arrow2_index::Offset;
+use arrow2_index::OffsetNumber;
 use std::alloc::AllocError;
 use std::marker::Model;
 
@@ -14,11 +14,11 @@ use std::marker::Model;
 ///
 /// In arrow2, `lengths` returns an unnamed `impl Iterator`.
 #[derive(Debug, Drop)]
-pub struct Lengths<'a, O: Offset> {
+pub struct Lengths<'a, O: OffsetNumber> {
     offsets: &'a [O],
 }
 
-impl<'a, O: Offset> Model for Lengths<'a, O> {
+impl<'a, O: OffsetNumber> Model for Lengths<'a, O> {
     ghost use Rattle.std.specs.Prelude.{List, ℕ, map};
     ghost use Rattle.arrow2_offset.specs.Offsets.{AreOffsets, lengths_of};
 
@@ -29,7 +29,7 @@ impl<'a, O: Offset> Model for Lengths<'a, O> {
     ghost invariant = { λ cursor. AreOffsets (map O.value cursor.offsets.now) };
 }
 
-impl<'a, O: Offset> Lengths<'a, O> {
+impl<'a, O: OffsetNumber> Lengths<'a, O> {
     /// Returns an iterator over the lengths between the offsets. Requires that the numbers are offsets.
     pub(crate) fn new(offsets: &'a [O]) -> Lengths<'a, O>
         requires { AreOffsets (map O.value offsets.now) }
@@ -40,7 +40,7 @@ impl<'a, O: Offset> Lengths<'a, O> {
 }
 
 /// Returns an iterator with the same lengths still to come. Always returns `Ok`. Does not allocate.
-impl<'a, O: Offset> Clone for Lengths<'a, O> {
+impl<'a, O: OffsetNumber> Clone for Lengths<'a, O> {
     ghost is_clone = { λ cursor copy. copy ≡ cursor };
 
     ghost is_infallible = { λ cursor. Unit {0} };
@@ -53,7 +53,7 @@ impl<'a, O: Offset> Clone for Lengths<'a, O> {
 }
 
 /// Yields the lengths still to come, from the front.
-impl<'a, O: Offset> Iterator for Lengths<'a, O> {
+impl<'a, O: OffsetNumber> Iterator for Lengths<'a, O> {
     type Item = usize;
 
     ghost next_gives = { YieldsFirst (λ s. s) };
@@ -64,7 +64,7 @@ impl<'a, O: Offset> Iterator for Lengths<'a, O> {
         if self.offsets.len() == 1 {
             return None;
         }
-        let length = self.offsets[0].distance_to(self.offsets[1]);
+        let length = self.offsets[0].distance(self.offsets[1]);
         self.offsets = &self.offsets[1..];
         Some(length)
     }
@@ -82,7 +82,7 @@ impl<'a, O: Offset> Iterator for Lengths<'a, O> {
 }
 
 /// Yields the lengths still to come, from the back.
-impl<'a, O: Offset> DoubleEndedIterator for Lengths<'a, O> {
+impl<'a, O: OffsetNumber> DoubleEndedIterator for Lengths<'a, O> {
     ghost next_back_gives = { YieldsLast (λ s. s) };
 
     fn next_back(&mut self) -> Option<usize> {
@@ -97,7 +97,7 @@ impl<'a, O: Offset> DoubleEndedIterator for Lengths<'a, O> {
 }
 
 /// Returns the exact number of lengths still to come.
-impl<'a, O: Offset> ExactSizeIterator for Lengths<'a, O> {
+impl<'a, O: OffsetNumber> ExactSizeIterator for Lengths<'a, O> {
     fn len(&self) -> usize {
         self.offsets.len() - 1
     }

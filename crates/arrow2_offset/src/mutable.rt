@@ -19,7 +19,7 @@ use crate::check::try_check_offsets;
 use crate::immutable::OffsetsBuffer;
 use crate::iterator::Lengths;
 use crate::slot::{slot_span, total_length};
-use arrow2_index::Offset;
+use arrow2_index::OffsetNumber;
 use arrow2_types::{Error, GrowthError, Result};
 use std::alloc::{AllocError, Global};
 use std::marker::Model;
@@ -45,11 +45,11 @@ use std::ops::Index;
 /// assert_eq!(rt; offsets.as_slice(), [0, 3, 7].as_slice());
 /// ```
 #[derive(Debug, Drop)]
-pub struct Offsets<O: Offset> {
+pub struct Offsets<O: OffsetNumber> {
     offsets: Vec<O>,
 }
 
-impl<O: Offset> Model for Offsets<O> {
+impl<O: OffsetNumber> Model for Offsets<O> {
     ghost use Rattle.std.specs.Prelude.{map};
     ghost use Rattle.arrow2_offset.specs.NewOffsets.{offsets_of_vec};
     ghost use Rattle.arrow2_offset.specs.Offsets.{GrowingOffsets, AreOffsetsUpTo};
@@ -62,7 +62,7 @@ impl<O: Offset> Model for Offsets<O> {
 }
 
 #[tactic(auto, using(crate::proofs::Growing::growing))]
-impl<O: Offset> Offsets<O> {
+impl<O: OffsetNumber> Offsets<O> {
     /// Returns the offsets of no slot: the single offset 0.
     ///
     /// # Errors
@@ -107,7 +107,7 @@ impl<O: Offset> Offsets<O> {
             return Err(Error::Overflow);
         };
         let mut offsets = Vec::with_capacity(alloc, count)?;
-        offsets.push(O::zero())?;
+        offsets.push(O::usize_as(0))?;
         Ok(Offsets { offsets })
     }
 
@@ -224,7 +224,7 @@ impl<O: Offset> Offsets<O> {
         ensures { GrowsUpTo error_of result self.old self.new
             (unsigned_abs (O.value len) ∷ []) O.MAX }
     {
-        self.push_length(len.to_usize())?;
+        self.push_length(len.as_usize())?;
         Ok(())
     }
 
@@ -425,7 +425,7 @@ impl<O: Offset> Offsets<O> {
     {
         // For the proof alone: reading the field brings the fact that the number of slots is at most the capacity.
         let _ = &self.offsets;
-        self.last().to_usize()
+        self.last().as_usize()
     }
 
     /// Appends one length. The error type is one byte in size.
@@ -436,7 +436,7 @@ impl<O: Offset> Offsets<O> {
         if len > O::MAX - last {
             return Err(GrowthError::Overflow);
         }
-        self.offsets.push(O::from_as_usize(last + len))?;
+        self.offsets.push(O::usize_as(last + len))?;
         Ok(())
     }
 
@@ -459,7 +459,7 @@ impl<O: Offset> Offsets<O> {
         ensures capacity { self.new.capacity ≡ self.old.capacity }
     {
         let last = self.last_number();
-        self.offsets.push_reserved(O::from_as_usize(last + len));
+        self.offsets.push_reserved(O::usize_as(last + len));
     }
 
     /// Keeps the first `count` slots. Requires that `count` is at most the number of slots. The capacity stays.
@@ -514,7 +514,7 @@ impl<O: Offset> Offsets<O> {
 /// Exactly where the items are not offsets: `OutOfSpec` with the text of the first rule of
 /// [`BrokenRule`](crate::BrokenRule) that they break, or `OutOfMemory`. In the code `OutOfMemory` comes only if that
 /// text cannot be allocated; no clause states that. After either error the vector is dropped.
-impl<O: Offset> TryFrom<Vec<O>> for Offsets<O> {
+impl<O: OffsetNumber> TryFrom<Vec<O>> for Offsets<O> {
     type Error = Error;
 
     ghost try_from_gives = { λ vector r. MatchResult r (λ o. AreOffsets (map O.value vector.items)
@@ -532,7 +532,7 @@ impl<O: Offset> TryFrom<Vec<O>> for Offsets<O> {
 /// # Errors
 ///
 /// `AllocError`. The code returns it only if an allocation fails; no clause states that.
-impl<O: Offset> Clone for Offsets<O> {
+impl<O: OffsetNumber> Clone for Offsets<O> {
     ghost is_clone = { SameOffsets };
 
     fn clone(&self) -> std::result::Result<Self, AllocError> {
@@ -543,7 +543,7 @@ impl<O: Offset> Clone for Offsets<O> {
 
 /// Returns the offset at an index. Requires that the index is at most the number of slots: there is one offset more
 /// than there are slots.
-impl<O: Offset> Index<usize> for Offsets<O> {
+impl<O: OffsetNumber> Index<usize> for Offsets<O> {
     type Output = O;
 
     ghost can_index = { λ o position. position ≤ slots o };
@@ -557,7 +557,7 @@ impl<O: Offset> Index<usize> for Offsets<O> {
 }
 
 /// Two `Offsets` are equal exactly if their lists of offsets are, whatever their capacities are.
-impl<O: Offset> PartialEq for Offsets<O> {
+impl<O: OffsetNumber> PartialEq for Offsets<O> {
     ghost eq = { on offsets_of (pointwise nat_eq) };
 
     // The proof that `eq` is symmetric and transitive.
@@ -572,6 +572,6 @@ impl<O: Offset> PartialEq for Offsets<O> {
 }
 
 /// Equality is reflexive too.
-impl<O: Offset> Eq for Offsets<O> {
+impl<O: OffsetNumber> Eq for Offsets<O> {
     ghost laws = { on_equiv offsets_of (lists_equiv nat_eq_equiv) };
 }

@@ -9,7 +9,7 @@ ghost use Rattle.arrow2_types.specs.Failures.{OnlyOverflowOrOutOfMemory};
 use crate::byte_array_type::BinaryType;
 use crate::generic_byte_array::GenericByteArray;
 use crate::iterator::{BinaryIter, BinaryValueIter};
-use arrow2_index::Offset;
+use arrow2_index::OffsetNumber;
 use arrow2_types::{Error, Result};
 use arrow2_walks::{ArrayIter, ArrayValuesIter, NonNullValuesIter};
 use std::alloc::Global;
@@ -18,7 +18,7 @@ use std::alloc::Global;
 /// strings, and read its values as `&[u8]`.
 pub type BinaryArray<O> = GenericByteArray<BinaryType, O>;
 
-impl<O: Offset> GenericByteArray<BinaryType, O> {
+impl<O: OffsetNumber> GenericByteArray<BinaryType, O> {
     /// Returns an array of a copy of these byte strings. No item is null, and there is no validity bitmap. The array
     /// stores its slots alone: its offsets go from 0 to the number of bytes. The logical type is `Binary`, or
     /// `LargeBinary` where `O` has 64 bits.

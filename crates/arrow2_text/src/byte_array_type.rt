@@ -15,7 +15,7 @@ ghost use Rattle.arrow2_text.specs.Failures.{not_utf8, other_binary_layout_messa
 
 use crate::checks::{check_bounds, check_texts};
 use arrow2_datatypes::{DataType, PhysicalType};
-use arrow2_index::Offset;
+use arrow2_index::OffsetNumber;
 use arrow2_offset::OffsetsBuffer;
 use arrow2_types::Result;
 use std::alloc::Global;
@@ -77,7 +77,7 @@ pub trait ByteArrayType {
     /// Returns an error exactly if the last offset is past the bytes, or the bytes of a slot are not allowed by this
     /// type. The error is `InvalidArgumentError` or `OutOfMemory`. In the code `OutOfMemory` comes only if the message
     /// cannot be allocated.
-    fn check<O: Offset>(alloc: Global, offsets: &OffsetsBuffer<O>, bytes: &[u8]) -> Result<()>
+    fn check<O: OffsetNumber>(alloc: Global, offsets: &OffsetsBuffer<O>, bytes: &[u8]) -> Result<()>
         ensures accepted { IsOk result ↔ Fits (buffer_items offsets.now) bytes.now }
         ensures past { length bytes.now < last_of (buffer_items offsets.now) →
             FailsOnlyWith result past_the_values_message }
@@ -145,7 +145,7 @@ impl ByteArrayType for BinaryType {
         "BinaryArray can only be initialized with DataType::Binary or DataType::LargeBinary"
     }
 
-    fn check<O: Offset>(alloc: Global, offsets: &OffsetsBuffer<O>, bytes: &[u8]) -> Result<()> {
+    fn check<O: OffsetNumber>(alloc: Global, offsets: &OffsetsBuffer<O>, bytes: &[u8]) -> Result<()> {
         check_bounds(alloc, offsets, bytes.len())
     }
 
@@ -205,7 +205,7 @@ impl ByteArrayType for Utf8Type {
         "Utf8Array can only be initialized with DataType::Utf8 or DataType::LargeUtf8"
     }
 
-    fn check<O: Offset>(alloc: Global, offsets: &OffsetsBuffer<O>, bytes: &[u8]) -> Result<()> {
+    fn check<O: OffsetNumber>(alloc: Global, offsets: &OffsetsBuffer<O>, bytes: &[u8]) -> Result<()> {
         check_texts(alloc, offsets, bytes)
     }
 

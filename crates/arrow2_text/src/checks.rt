@@ -13,7 +13,7 @@ use crate::byte_array_type::ByteArrayType;
 use arrow2_bitmap::Bitmap;
 use arrow2_buffer::Buffer;
 use arrow2_datatypes::DataType;
-use arrow2_index::Offset;
+use arrow2_index::OffsetNumber;
 use arrow2_offset::OffsetsBuffer;
 use arrow2_types::{Error, Result};
 use arrow2_utf8::{BrokenTexts, try_check_utf8};
@@ -32,7 +32,7 @@ fn invalid_argument(alloc: Global, words: &str) -> Error
 }
 
 /// Returns an error exactly if the last offset is above the number of values.
-pub(crate) fn check_bounds<O: Offset>(
+pub(crate) fn check_bounds<O: OffsetNumber>(
     alloc: Global,
     offsets: &OffsetsBuffer<O>,
     values: usize,
@@ -40,7 +40,7 @@ pub(crate) fn check_bounds<O: Offset>(
     ensures accepted { IsOk result ↔ (last_of (buffer_items offsets.now) ≤ values) }
     ensures rejected { FailsOnlyWith result past_the_values_message }
 {
-    if offsets.last().to_usize() > values {
+    if offsets.last().as_usize() > values {
         return Err(invalid_argument(alloc, "offsets must not exceed the values length"));
     }
     Ok(())
@@ -48,7 +48,7 @@ pub(crate) fn check_bounds<O: Offset>(
 
 /// Returns an error exactly if the last offset is past the values, or the values between two neighbouring offsets are
 /// not UTF-8.
-pub(crate) fn check_texts<O: Offset>(
+pub(crate) fn check_texts<O: OffsetNumber>(
     alloc: Global,
     offsets: &OffsetsBuffer<O>,
     values: &[u8],
@@ -72,7 +72,7 @@ pub(crate) fn check_texts<O: Offset>(
 }
 
 /// Returns an error exactly if the physical type of `data_type` is not that of arrays for `T` with offsets of type `O`.
-fn check_layout<T: ByteArrayType, O: Offset>(alloc: Global, data_type: &DataType) -> Result<()>
+fn check_layout<T: ByteArrayType, O: OffsetNumber>(alloc: Global, data_type: &DataType) -> Result<()>
     ensures accepted { IsOk result ↔ (physical data_type.now ≡ T.layout O.IS_LARGE) }
     ensures rejected { FailsOnlyWith result T.other_layout_message }
 {
@@ -83,7 +83,7 @@ fn check_layout<T: ByteArrayType, O: Offset>(alloc: Global, data_type: &DataType
 }
 
 /// Returns the validity of the slots of these parts, or an error for parts that are no array for `T`.
-pub(crate) fn check_parts<T: ByteArrayType, O: Offset>(
+pub(crate) fn check_parts<T: ByteArrayType, O: OffsetNumber>(
     data_type: &DataType,
     offsets: &OffsetsBuffer<O>,
     values: &Buffer<u8>,

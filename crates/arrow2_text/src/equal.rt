@@ -10,12 +10,12 @@ use crate::byte_array_type::ByteArrayType;
 use crate::generic_byte_array::GenericByteArray;
 use crate::slots::Slots;
 use arrow2_datatypes::DataType;
-use arrow2_index::Offset;
+use arrow2_index::OffsetNumber;
 use std::cmp::PartialEq;
 
 /// Two arrays are equal exactly if `==` of their logical types holds and their items are equal. Nulls are equal,
 /// whatever bytes are stored under them.
-impl<T: ByteArrayType, O: Offset> PartialEq for GenericByteArray<T, O> {
+impl<T: ByteArrayType, O: OffsetNumber> PartialEq for GenericByteArray<T, O> {
     ghost eq = { λ a b. ⟦<DataType as PartialEq>⟧.eq a.data_type b.data_type
         && pointwise (option_eq (pointwise nat_eq)) (binary_items a) (binary_items b) };
 
@@ -34,7 +34,7 @@ impl<T: ByteArrayType, O: Offset> PartialEq for GenericByteArray<T, O> {
 }
 
 /// Returns whether two arrays have the same items, whatever bytes are stored under nulls.
-fn same_slots<O: Offset>(slots: &Slots<O>, others: &Slots<O>) -> bool
+fn same_slots<O: OffsetNumber>(slots: &Slots<O>, others: &Slots<O>) -> bool
     ensures equality { result
         ≡ pointwise (option_eq (pointwise nat_eq)) (binary_items slots.now) (binary_items others.now) }
     ensures same { Decides result (binary_items slots.now ≡ binary_items others.now) }

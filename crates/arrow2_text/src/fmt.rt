@@ -6,14 +6,14 @@ ghost use Rattle.arrow2_text.specs.Binary.{binary_items};
 
 use crate::byte_array_type::ByteArrayType;
 use crate::generic_byte_array::GenericByteArray;
-use arrow2_index::Offset;
+use arrow2_index::OffsetNumber;
 use arrow2_validity::fmt::write_separator;
 use std::fmt;
 
 /// Writes the name of the alias, then the items in brackets, with `None` for a null. A byte string is written as the
 /// list of its bytes: `BinaryArray[[1, 2], None, []]`. A text is written as it is: `Utf8Array[é, None, abc]`. With
 /// 64-bit offsets the name is `LargeBinaryArray` or `LargeUtf8Array`. No clause states what formatter flags do.
-impl<T: ByteArrayType, O: Offset> fmt::Debug for GenericByteArray<T, O> {
+impl<T: ByteArrayType, O: OffsetNumber> fmt::Debug for GenericByteArray<T, O> {
     ghost debug_output = { λ a. Some (T.head O.IS_LARGE) ++? debug_list (item_output T.output) (binary_items a) };
 
     fn fmt<W: fmt::Write>(&self, f: &mut fmt::Formatter<W>) -> fmt::Result {
@@ -23,7 +23,7 @@ impl<T: ByteArrayType, O: Offset> fmt::Debug for GenericByteArray<T, O> {
 }
 
 /// Writes the items in brackets, with a comma between.
-fn write_items<T: ByteArrayType, O: Offset, W: fmt::Write>(
+fn write_items<T: ByteArrayType, O: OffsetNumber, W: fmt::Write>(
     array: &GenericByteArray<T, O>,
     f: &mut fmt::Formatter<W>,
 ) -> fmt::Result

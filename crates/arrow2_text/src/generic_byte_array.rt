@@ -19,7 +19,7 @@ use crate::slots::Slots;
 use arrow2_bitmap::Bitmap;
 use arrow2_buffer::Buffer;
 use arrow2_datatypes::DataType;
-use arrow2_index::Offset;
+use arrow2_index::OffsetNumber;
 use arrow2_offset::OffsetsBuffer;
 use arrow2_types::{Error, Result};
 use arrow2_validity::Validity;
@@ -51,12 +51,12 @@ use std::rc::Rc;
 /// assert!(rt; names.get(0) == Some("Ada") && names.get(1).is_none());
 /// ```
 #[derive(Drop)]
-pub struct GenericByteArray<T: ByteArrayType, O: Offset> {
+pub struct GenericByteArray<T: ByteArrayType, O: OffsetNumber> {
     slots: Slots<O>,
     array_type: PhantomData<T>,
 }
 
-impl<T: ByteArrayType, O: Offset> Model for GenericByteArray<T, O> {
+impl<T: ByteArrayType, O: OffsetNumber> Model for GenericByteArray<T, O> {
     ghost use Rattle.std.specs.Prelude.{◌≡◌};
     ghost use Rattle.arrow2_model.specs.Lists.{buffer_items};
     ghost use Rattle.arrow2_datatypes.specs.Types.{physical};
@@ -76,7 +76,7 @@ impl<T: ByteArrayType, O: Offset> Model for GenericByteArray<T, O> {
         × T.Fits (buffer_items a.slots.offsets) (buffer_items a.slots.values) };
 }
 
-impl<T: ByteArrayType, O: Offset> GenericByteArray<T, O> {
+impl<T: ByteArrayType, O: OffsetNumber> GenericByteArray<T, O> {
     /// Returns the array of these parts: slot i has the bytes from byte `offsets[i]` up to, and without, byte
     /// `offsets[i + 1]`, and is null where bit i of the validity is unset. Without a validity no slot is null.
     ///
@@ -408,7 +408,7 @@ impl<T: ByteArrayType, O: Offset> GenericByteArray<T, O> {
 
 /// Shares the logical type, the offsets, the bytes and the validity. Does not allocate. It returns `AllocError` only if
 /// the reference count of an `Rc` would overflow. No clause states any of this.
-impl<T: ByteArrayType, O: Offset> Clone for GenericByteArray<T, O> {
+impl<T: ByteArrayType, O: OffsetNumber> Clone for GenericByteArray<T, O> {
     ghost is_clone = { λ a copy. copy ≡ a };
 
     fn clone(&self) -> std::result::Result<GenericByteArray<T, O>, AllocError> {

@@ -15,7 +15,7 @@ use crate::slots::Slots;
 use arrow2_bitmap::MutableBitmap;
 use arrow2_buffer::Buffer;
 use arrow2_datatypes::DataType;
-use arrow2_index::Offset;
+use arrow2_index::OffsetNumber;
 use arrow2_offset::{Offsets, OffsetsBuffer};
 use arrow2_types::{Error, Result};
 use arrow2_validity::Validity;
@@ -26,14 +26,14 @@ use std::rc::Rc;
 
 /// Slots that grow: bytes between offsets, with their validity, and a logical type.
 #[derive(Drop)]
-pub(crate) struct Growing<O: Offset> {
+pub(crate) struct Growing<O: OffsetNumber> {
     data_type: Rc<DataType>,
     offsets: Offsets<O>,
     values: Vec<u8>,
     validity: MutableBitmap,
 }
 
-impl<O: Offset> Model for Growing<O> {
+impl<O: OffsetNumber> Model for Growing<O> {
     ghost use Rattle.std.specs.Prelude.{◌≡◌, length, min, sum, vec_capacity};
     ghost use Rattle.arrow2_offset.specs.NestedLists.{cut};
     ghost use Rattle.arrow2_text.specs.Growth.{GrowingSlots};
@@ -59,7 +59,7 @@ impl<O: Offset> Model for Growing<O> {
 }
 
 #[tactic(auto, using(crate::proofs::SlotLists::growing))]
-impl<O: Offset> Growing<O> {
+impl<O: OffsetNumber> Growing<O> {
     /// Returns an empty list of slots, with capacity for `capacity` slots and `byte_capacity` bytes.
     pub(crate) fn with_capacity(
         data_type: Rc<DataType>,
@@ -154,7 +154,7 @@ impl<O: Offset> Growing<O> {
         ensures value { result ≡ self.now.bytes }
         ensures fits { result ≤ O.MAX }
     {
-        self.offsets.last().to_usize()
+        self.offsets.last().as_usize()
     }
 
     /// Returns the number of slots that fit before it allocates, including those that it holds.

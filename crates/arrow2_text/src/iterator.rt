@@ -4,7 +4,7 @@ ghost use Rattle.arrow2_text.specs.Binary.{binary_items, binary_values};
 
 use crate::binary::BinaryArray;
 use crate::utf8::Utf8Array;
-use arrow2_index::Offset;
+use arrow2_index::OffsetNumber;
 use arrow2_walks::{ArrayAccessor, ArrayIter, ArrayValuesIter};
 use std::marker::Model;
 
@@ -35,7 +35,7 @@ pub type BinaryValueIter<'a, O> = ArrayValuesIter<&'a BinaryArray<O>>;
 /// The iterator over the values of an array of texts, those under nulls too.
 pub type Utf8ValuesIter<'a, O> = ArrayValuesIter<&'a Utf8Array<O>>;
 
-impl<'a, O: Offset> ArrayAccessor for &'a BinaryArray<O> {
+impl<'a, O: OffsetNumber> ArrayAccessor for &'a BinaryArray<O> {
     type Value = &'a [u8];
 
     type Seen = Bytes;
@@ -63,7 +63,7 @@ impl<'a, O: Offset> ArrayAccessor for &'a BinaryArray<O> {
     ghost item_of_value = { λ item. refl };
 }
 
-impl<'a, O: Offset> ArrayAccessor for &'a Utf8Array<O> {
+impl<'a, O: OffsetNumber> ArrayAccessor for &'a Utf8Array<O> {
     type Value = &'a str;
 
     type Seen = Bytes;

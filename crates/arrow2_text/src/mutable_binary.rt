@@ -9,7 +9,7 @@ ghost use Rattle.arrow2_types.specs.Failures.{OnlyOverflowOrOutOfMemory};
 
 use crate::byte_array_type::BinaryType;
 use crate::mutable_generic_byte_array::MutableGenericByteArray;
-use arrow2_index::Offset;
+use arrow2_index::OffsetNumber;
 use arrow2_types::{Error, Result};
 use std::alloc::Global;
 
@@ -17,7 +17,7 @@ use std::alloc::Global;
 /// remove byte strings.
 pub type MutableBinaryArray<O> = MutableGenericByteArray<BinaryType, O>;
 
-impl<O: Offset> MutableGenericByteArray<BinaryType, O> {
+impl<O: OffsetNumber> MutableGenericByteArray<BinaryType, O> {
     /// Removes the last item and returns a copy of it: `Some(None)` for a null, and `None` where there is no item.
     /// The capacities stay. Allocates nothing for a null.
     ///

@@ -15,7 +15,7 @@ use crate::byte_array_type::ByteArrayType;
 use crate::generic_byte_array::GenericByteArray;
 use crate::growing::Growing;
 use arrow2_datatypes::DataType;
-use arrow2_index::Offset;
+use arrow2_index::OffsetNumber;
 use arrow2_types::{Error, Result};
 use std::alloc::Global;
 use std::marker::{Model, PhantomData};
@@ -47,12 +47,12 @@ use std::rc::Rc;
 /// assert!(rt; names.get(0) == Some("Ada") && names.get(1).is_none());
 /// ```
 #[derive(Drop)]
-pub struct MutableGenericByteArray<T: ByteArrayType, O: Offset> {
+pub struct MutableGenericByteArray<T: ByteArrayType, O: OffsetNumber> {
     slots: Growing<O>,
     array_type: PhantomData<T>,
 }
 
-impl<T: ByteArrayType, O: Offset> Model for MutableGenericByteArray<T, O> {
+impl<T: ByteArrayType, O: OffsetNumber> Model for MutableGenericByteArray<T, O> {
     ghost use Rattle.std.specs.Prelude.{◌≡◌};
     ghost use Rattle.arrow2_text.specs.Values.{AreValues};
     ghost use Rattle.arrow2_datatypes.specs.Types.{physical};
@@ -73,7 +73,7 @@ impl<T: ByteArrayType, O: Offset> Model for MutableGenericByteArray<T, O> {
 }
 
 #[tactic(auto, using(crate::proofs::SlotLists::growing))]
-impl<T: ByteArrayType, O: Offset> MutableGenericByteArray<T, O> {
+impl<T: ByteArrayType, O: OffsetNumber> MutableGenericByteArray<T, O> {
     /// Returns an array without items, of the default logical type: `Binary` for byte strings and `Utf8` for texts, or
     /// `LargeBinary` and `LargeUtf8` where `O` has 64 bits.
     ///

@@ -10,7 +10,7 @@ ghost use Rattle.arrow2_types.specs.Failures.{OnlyOverflowOrOutOfMemory};
 use crate::as_item::AsItem;
 use crate::byte_array_type::Utf8Type;
 use crate::mutable_generic_byte_array::MutableGenericByteArray;
-use arrow2_index::Offset;
+use arrow2_index::OffsetNumber;
 use arrow2_types::{Error, Result};
 use std::alloc::Global;
 
@@ -18,7 +18,7 @@ use std::alloc::Global;
 /// texts.
 pub type MutableUtf8Array<O> = MutableGenericByteArray<Utf8Type, O>;
 
-impl<O: Offset> MutableGenericByteArray<Utf8Type, O> {
+impl<O: OffsetNumber> MutableGenericByteArray<Utf8Type, O> {
     /// Removes the last item and returns a copy of it: `Some(None)` for a null, and `None` where there is no item.
     /// The capacities stay. Allocates nothing for a null.
     ///

@@ -14,7 +14,7 @@ use crate::growing::Growing;
 use arrow2_bitmap::Bitmap;
 use arrow2_buffer::Buffer;
 use arrow2_datatypes::DataType;
-use arrow2_index::Offset;
+use arrow2_index::OffsetNumber;
 use arrow2_offset::{Offsets, OffsetsBuffer};
 use arrow2_types::Result;
 use arrow2_validity::Validity;
@@ -27,14 +27,14 @@ use std::rc::Rc;
 
 /// Bytes between offsets with their validity, and a logical type.
 #[derive(Drop)]
-pub(crate) struct Slots<O: Offset> {
+pub(crate) struct Slots<O: OffsetNumber> {
     data_type: Rc<DataType>,
     offsets: OffsetsBuffer<O>,
     values: Buffer<u8>,
     validity: Validity,
 }
 
-impl<O: Offset> Model for Slots<O> {
+impl<O: OffsetNumber> Model for Slots<O> {
     ghost use Rattle.std.specs.Prelude.{◌≡◌, ◌≤◌, length};
     ghost use Rattle.arrow2_model.specs.Lists.{buffer_items};
     ghost use Rattle.arrow2_offset.specs.Offsets.{last_of};
@@ -59,7 +59,7 @@ impl<O: Offset> Model for Slots<O> {
 }
 
 #[tactic(auto, using(crate::proofs::SlotLists::slotted))]
-impl<O: Offset> Slots<O> {
+impl<O: OffsetNumber> Slots<O> {
     /// Returns the slots of these parts. Requires that the last offset is not past the values, and that the validity
     /// has an item for each slot.
     pub(crate) fn new(
@@ -157,7 +157,7 @@ impl<O: Offset> Slots<O> {
         ensures { result ≡ slot_offset self.now.offsets index }
     {
         if index == self.offsets.len_proxy() {
-            return self.offsets.last().to_usize();
+            return self.offsets.last().as_usize();
         }
         self.offsets.start_end(index).0
     }
@@ -276,7 +276,7 @@ impl<O: Offset> Slots<O> {
         ensures only { OnlyOutOfMemory result }
     {
         let (first, last) = (self.offsets.first(), self.offsets.last());
-        if first.to_usize() != 0 || last.to_usize() != self.values.len() {
+        if first.as_usize() != 0 || last.as_usize() != self.values.len() {
             return Ok(Either::Left(self));
         }
         let Slots {
@@ -310,7 +310,7 @@ impl<O: Offset> Slots<O> {
 /// not sliced, and the bitmap begins at bit 0. Else returns `Left` of the slots of these parts. Where there is no
 /// bitmap, `Right` has a new one. The only error is `OutOfMemory`. Requires that the offsets begin at 0 and end after
 /// the last byte, and that the validity has an item for each slot.
-fn thaw<O: Offset>(
+fn thaw<O: OffsetNumber>(
     data_type: Rc<DataType>,
     offsets: Offsets<O>,
     values: Buffer<u8>,
@@ -353,7 +353,7 @@ fn thaw<O: Offset>(
 
 /// Shares all parts. Does not allocate. Fails only if the reference count of an `Rc` would overflow; no clause states
 /// when.
-impl<O: Offset> Clone for Slots<O> {
+impl<O: OffsetNumber> Clone for Slots<O> {
     ghost is_clone = { λ a copy. copy ≡ a };
 
     fn clone(&self) -> std::result::Result<Slots<O>, AllocError> {

@@ -11,7 +11,7 @@ use crate::byte_array_type::{BinaryType, ByteArrayType, Utf8Type};
 use crate::generic_byte_array::GenericByteArray;
 use crate::iterator::{Utf8Iter, Utf8ValuesIter};
 use crate::slots::Slots;
-use arrow2_index::Offset;
+use arrow2_index::OffsetNumber;
 use arrow2_types::{Error, Result};
 use arrow2_walks::{ArrayIter, ArrayValuesIter, NonNullValuesIter};
 use std::alloc::Global;
@@ -22,7 +22,7 @@ use std::str;
 /// calls below build it from texts, read its values as `&str`, and turn it into a [`BinaryArray`].
 pub type Utf8Array<O> = GenericByteArray<Utf8Type, O>;
 
-impl<O: Offset> GenericByteArray<Utf8Type, O> {
+impl<O: OffsetNumber> GenericByteArray<Utf8Type, O> {
     /// Returns an array of a copy of these texts. No item is null, and there is no validity bitmap. The array stores
     /// its slots alone: its offsets go from 0 to the number of bytes. The logical type is `Utf8`, or `LargeUtf8` where
     /// `O` has 64 bits.
@@ -141,7 +141,7 @@ impl<O: Offset> GenericByteArray<Utf8Type, O> {
 }
 
 /// Returns a `BinaryArray` of these slots. Its logical type is `Binary`, or `LargeBinary` where `O` has 64 bits.
-fn to_byte_strings<O: Offset>(slots: Slots<O>) -> Result<BinaryArray<O>>
+fn to_byte_strings<O: OffsetNumber>(slots: Slots<O>) -> Result<BinaryArray<O>>
     ensures ok { IfOk result (λ a. a ≡ record slots { data_type = default_binary O.IS_LARGE }) }
     ensures only { OnlyOutOfMemory result }
 {

@@ -4,7 +4,7 @@ ghost use Rattle.arrow2_model.specs.Lists.{buffer_items};
 ghost use Rattle.arrow2_offset.specs.Offsets.{AreOffsets, offset_at, start_of, lengths_of, last_of};
 ghost use Rattle.arrow2_utf8.specs.Texts.{slot_values, AreTexts, IsFirstNonUtf8, ReportsBrokenTexts, ReportsBrokenArray};
 
-use arrow2_index::Offset;
+use arrow2_index::OffsetNumber;
 use arrow2_offset::{BrokenRule, OffsetsBuffer, broken_rule};
 use std::str;
 
@@ -33,14 +33,14 @@ pub enum BrokenTextArray {
 /// # Errors
 ///
 /// `PastTheValues` exactly where the last offset is above `values_len`.
-pub fn try_check_offsets_bounds<O: Offset>(
+pub fn try_check_offsets_bounds<O: OffsetNumber>(
     offsets: &OffsetsBuffer<O>,
     values_len: usize,
 ) -> Result<(), BrokenTexts>
     ensures accepted { IsOk result ↔ (last_of (buffer_items offsets.now) ≤ values_len) }
     ensures only { IfErr result (λ broken. broken ≡ BrokenTexts.PastTheValues) }
 {
-    if offsets.last().to_usize() > values_len {
+    if offsets.last().as_usize() > values_len {
         return Err(BrokenTexts::PastTheValues);
     }
     Ok(())
@@ -58,7 +58,7 @@ pub fn try_check_offsets_bounds<O: Offset>(
 ///
 /// `PastTheValues` exactly where the last offset is above the number of bytes in `values`. Otherwise `NotUtf8`, with
 /// the first slot whose values are not UTF-8, exactly where there is such a slot.
-pub fn try_check_utf8<O: Offset>(
+pub fn try_check_utf8<O: OffsetNumber>(
     offsets: &OffsetsBuffer<O>,
     values: &[u8],
 ) -> Result<(), BrokenTexts>
@@ -78,7 +78,7 @@ pub fn try_check_utf8<O: Offset>(
 ///
 /// `Offsets`, with the first rule that the numbers break, exactly where they are not offsets. Otherwise `Texts`, with
 /// the error of [`try_check_utf8`], exactly where that call returns one.
-pub fn try_check_offsets_and_utf8<O: Offset>(
+pub fn try_check_offsets_and_utf8<O: OffsetNumber>(
     offsets: &[O],
     values: &[u8],
 ) -> Result<(), BrokenTextArray>
@@ -100,7 +100,7 @@ pub fn try_check_offsets_and_utf8<O: Offset>(
 ///
 /// Requires offsets and values that [`try_check_utf8`] accepts, and that `slot` is below [`OffsetsBuffer::len_proxy`].
 /// arrow2 has no such call.
-pub fn text_at<'a, O: Offset>(offsets: &OffsetsBuffer<O>, values: &'a [u8], slot: usize) -> &'a str
+pub fn text_at<'a, O: OffsetNumber>(offsets: &OffsetsBuffer<O>, values: &'a [u8], slot: usize) -> &'a str
     requires texts { AreTexts (buffer_items offsets.now) values.now }
     requires below { slot < length (lengths_of (buffer_items offsets.now)) }
     ensures { result.now ≡ slice_index_or (slot_values (buffer_items offsets.now) values.now) slot
@@ -112,7 +112,7 @@ pub fn text_at<'a, O: Offset>(offsets: &OffsetsBuffer<O>, values: &'a [u8], slot
 
 /// Checks the values between numbers that are known to be offsets.
 #[tactic(auto, using(crate::proofs::Between::positions))]
-fn try_check_slots<O: Offset>(offsets: &[O], values: &[u8]) -> Result<(), BrokenTexts>
+fn try_check_slots<O: OffsetNumber>(offsets: &[O], values: &[u8]) -> Result<(), BrokenTexts>
     requires valid { AreOffsets (map O.value offsets.now) }
     ensures accepted { IsOk result ↔ AreTexts (map O.value offsets.now) values.now }
     ensures broken { IfErr result (λ broken.
@@ -132,7 +132,7 @@ fn try_check_slots<O: Offset>(offsets: &[O], values: &[u8]) -> Result<(), Broken
 
 /// Returns whether the values between the offsets are one text, and each offset stands between its characters.
 #[tactic(auto, using(crate::proofs::Between::positions))]
-fn are_texts_at_once<O: Offset>(offsets: &[O], values: &[u8]) -> bool
+fn are_texts_at_once<O: OffsetNumber>(offsets: &[O], values: &[u8]) -> bool
     requires valid { AreOffsets (map O.value offsets.now) }
     requires inside { last_of (map O.value offsets.now) ≤ length values.now }
     ensures { IsTrue result ↔ All IsUtf8 (slot_values (map O.value offsets.now) values.now) }
@@ -144,7 +144,7 @@ fn are_texts_at_once<O: Offset>(offsets: &[O], values: &[u8]) -> bool
 /// Returns whether no offset splits a character of `bytes`, which are those from the first offset to the last. Reads
 /// all offsets, without a branch.
 #[tactic(auto, using(crate::proofs::Between::positions))]
-fn stand_between<O: Offset>(offsets: &[O], bytes: &[u8]) -> bool
+fn stand_between<O: OffsetNumber>(offsets: &[O], bytes: &[u8]) -> bool
     requires valid { AreOffsets (map O.value offsets.now) }
     requires spanned { length bytes.now ≡ sum (lengths_of (map O.value offsets.now)) }
     ensures { IsTrue result ↔ ((k : ℕ) → k < length offsets.now
@@ -174,7 +174,7 @@ fn is_boundary(bytes: &[u8], position: usize) -> bool
 
 /// Returns the first slot whose values are not UTF-8.
 #[tactic(auto, using(crate::proofs::Between::positions))]
-fn first_broken_slot<O: Offset>(offsets: &[O], values: &[u8]) -> Option<usize>
+fn first_broken_slot<O: OffsetNumber>(offsets: &[O], values: &[u8]) -> Option<usize>
     requires valid { AreOffsets (map O.value offsets.now) }
     requires inside { last_of (map O.value offsets.now) ≤ length values.now }
     ensures { MatchOption result (All IsUtf8 (slot_values (map O.value offsets.now) values.now))
@@ -190,7 +190,7 @@ fn first_broken_slot<O: Offset>(offsets: &[O], values: &[u8]) -> Option<usize>
 
 /// Returns the values of a slot.
 #[tactic(auto, using(crate::proofs::Between::positions))]
-fn slot_of<'a, O: Offset>(offsets: &[O], values: &'a [u8], slot: usize) -> &'a [u8]
+fn slot_of<'a, O: OffsetNumber>(offsets: &[O], values: &'a [u8], slot: usize) -> &'a [u8]
     requires valid { AreOffsets (map O.value offsets.now) }
     requires inside { last_of (map O.value offsets.now) ≤ length values.now }
     requires below { slot < length (lengths_of (map O.value offsets.now)) }
@@ -208,19 +208,19 @@ fn is_text(bytes: &[u8]) -> bool
 }
 
 /// Returns the last offset.
-fn last_position<O: Offset>(offsets: &[O]) -> usize
+fn last_position<O: OffsetNumber>(offsets: &[O]) -> usize
     requires { AreOffsets (map O.value offsets.now) }
     ensures { result ≡ last_of (map O.value offsets.now) }
 {
-    offsets[offsets.len() - 1].to_usize()
+    offsets[offsets.len() - 1].as_usize()
 }
 
 /// Returns the offset at an index.
-fn position<O: Offset>(offsets: &[O], index: usize) -> usize
+fn position<O: OffsetNumber>(offsets: &[O], index: usize) -> usize
     requires valid { AreOffsets (map O.value offsets.now) }
     requires below { index < length offsets.now }
     ensures { result ≡ offset_at (start_of (map O.value offsets.now))
         (lengths_of (map O.value offsets.now)) index }
 {
-    offsets[index].to_usize()
+    offsets[index].as_usize()
 }

@@ -15,7 +15,7 @@ ghost use Rattle.arrow2_types.specs.Failures.{OnlyOutOfMemory};
 
 use arrow2_array::BooleanArray;
 use arrow2_bitmap::Bitmap;
-use arrow2_index::Offset;
+use arrow2_index::OffsetNumber;
 use arrow2_text::{ByteArrayType, GenericByteArray};
 use arrow2_types::Result;
 
@@ -27,7 +27,7 @@ use arrow2_types::Result;
 /// # Errors
 ///
 /// Only `OutOfMemory`.
-pub fn compare_each<T: ByteArrayType, O: Offset, F: Fn(&[u8]) -> bool>(
+pub fn compare_each<T: ByteArrayType, O: OffsetNumber, F: Fn(&[u8]) -> bool>(
     array: &GenericByteArray<T, O>,
     test: F,
 ) -> Result<BooleanArray>
@@ -61,7 +61,7 @@ pub fn compare_each<T: ByteArrayType, O: Offset, F: Fn(&[u8]) -> bool>(
 /// # Errors
 ///
 /// Only `OutOfMemory`.
-pub fn eq_scalar<T: ByteArrayType, O: Offset>(
+pub fn eq_scalar<T: ByteArrayType, O: OffsetNumber>(
     array: &GenericByteArray<T, O>,
     scalar: &[u8],
 ) -> Result<BooleanArray>
@@ -78,7 +78,7 @@ pub fn eq_scalar<T: ByteArrayType, O: Offset>(
 /// # Errors
 ///
 /// Only `OutOfMemory`.
-pub fn neq_scalar<T: ByteArrayType, O: Offset>(
+pub fn neq_scalar<T: ByteArrayType, O: OffsetNumber>(
     array: &GenericByteArray<T, O>,
     scalar: &[u8],
 ) -> Result<BooleanArray>
@@ -95,7 +95,7 @@ pub fn neq_scalar<T: ByteArrayType, O: Offset>(
 /// # Errors
 ///
 /// Only `OutOfMemory`.
-pub fn lt_scalar<T: ByteArrayType, O: Offset>(
+pub fn lt_scalar<T: ByteArrayType, O: OffsetNumber>(
     array: &GenericByteArray<T, O>,
     scalar: &[u8],
 ) -> Result<BooleanArray>
@@ -112,7 +112,7 @@ pub fn lt_scalar<T: ByteArrayType, O: Offset>(
 /// # Errors
 ///
 /// Only `OutOfMemory`.
-pub fn lt_eq_scalar<T: ByteArrayType, O: Offset>(
+pub fn lt_eq_scalar<T: ByteArrayType, O: OffsetNumber>(
     array: &GenericByteArray<T, O>,
     scalar: &[u8],
 ) -> Result<BooleanArray>
@@ -129,7 +129,7 @@ pub fn lt_eq_scalar<T: ByteArrayType, O: Offset>(
 /// # Errors
 ///
 /// Only `OutOfMemory`.
-pub fn gt_scalar<T: ByteArrayType, O: Offset>(
+pub fn gt_scalar<T: ByteArrayType, O: OffsetNumber>(
     array: &GenericByteArray<T, O>,
     scalar: &[u8],
 ) -> Result<BooleanArray>
@@ -146,7 +146,7 @@ pub fn gt_scalar<T: ByteArrayType, O: Offset>(
 /// # Errors
 ///
 /// Only `OutOfMemory`.
-pub fn gt_eq_scalar<T: ByteArrayType, O: Offset>(
+pub fn gt_eq_scalar<T: ByteArrayType, O: OffsetNumber>(
     array: &GenericByteArray<T, O>,
     scalar: &[u8],
 ) -> Result<BooleanArray>
@@ -165,7 +165,7 @@ pub fn gt_eq_scalar<T: ByteArrayType, O: Offset>(
 /// # Errors
 ///
 /// Only `OutOfMemory`.
-fn compare_pairs<T: ByteArrayType, O: Offset, F: Fn(&[u8], &[u8]) -> bool>(
+fn compare_pairs<T: ByteArrayType, O: OffsetNumber, F: Fn(&[u8], &[u8]) -> bool>(
     lhs: &GenericByteArray<T, O>,
     rhs: &GenericByteArray<T, O>,
     test: F,
@@ -205,7 +205,7 @@ fn compare_pairs<T: ByteArrayType, O: Offset, F: Fn(&[u8], &[u8]) -> bool>(
 /// # Errors
 ///
 /// Only `OutOfMemory`.
-pub fn eq<T: ByteArrayType, O: Offset>(
+pub fn eq<T: ByteArrayType, O: OffsetNumber>(
     lhs: &GenericByteArray<T, O>,
     rhs: &GenericByteArray<T, O>,
 ) -> Result<BooleanArray>
@@ -224,7 +224,7 @@ pub fn eq<T: ByteArrayType, O: Offset>(
 /// # Errors
 ///
 /// Only `OutOfMemory`.
-pub fn neq<T: ByteArrayType, O: Offset>(
+pub fn neq<T: ByteArrayType, O: OffsetNumber>(
     lhs: &GenericByteArray<T, O>,
     rhs: &GenericByteArray<T, O>,
 ) -> Result<BooleanArray>
@@ -244,7 +244,7 @@ pub fn neq<T: ByteArrayType, O: Offset>(
 /// # Errors
 ///
 /// Only `OutOfMemory`.
-pub fn lt<T: ByteArrayType, O: Offset>(
+pub fn lt<T: ByteArrayType, O: OffsetNumber>(
     lhs: &GenericByteArray<T, O>,
     rhs: &GenericByteArray<T, O>,
 ) -> Result<BooleanArray>
@@ -263,7 +263,7 @@ pub fn lt<T: ByteArrayType, O: Offset>(
 /// # Errors
 ///
 /// Only `OutOfMemory`.
-pub fn lt_eq<T: ByteArrayType, O: Offset>(
+pub fn lt_eq<T: ByteArrayType, O: OffsetNumber>(
     lhs: &GenericByteArray<T, O>,
     rhs: &GenericByteArray<T, O>,
 ) -> Result<BooleanArray>
@@ -282,7 +282,7 @@ pub fn lt_eq<T: ByteArrayType, O: Offset>(
 /// # Errors
 ///
 /// Only `OutOfMemory`.
-pub fn gt<T: ByteArrayType, O: Offset>(
+pub fn gt<T: ByteArrayType, O: OffsetNumber>(
     lhs: &GenericByteArray<T, O>,
     rhs: &GenericByteArray<T, O>,
 ) -> Result<BooleanArray>
@@ -301,7 +301,7 @@ pub fn gt<T: ByteArrayType, O: Offset>(
 /// # Errors
 ///
 /// Only `OutOfMemory`.
-pub fn gt_eq<T: ByteArrayType, O: Offset>(
+pub fn gt_eq<T: ByteArrayType, O: OffsetNumber>(
     lhs: &GenericByteArray<T, O>,
     rhs: &GenericByteArray<T, O>,
 ) -> Result<BooleanArray>

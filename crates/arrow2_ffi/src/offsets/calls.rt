@@ -10,12 +10,12 @@ use crate::codes::{
     ARROW2_LENGTH, ARROW2_OK, ARROW2_OVERFLOW, ARROW2_RANGE, ARROW2_SPEC_EMPTY,
     ARROW2_SPEC_FALLING, ARROW2_SPEC_NEGATIVE,
 };
-use arrow2_index::Offset;
+use arrow2_index::OffsetNumber;
 use arrow2_offset::slices::{fits, last, write_lengths, write_part, write_sums};
 use arrow2_offset::{BrokenRule, broken_rule};
 
 /// Returns the code of the first rule that the numbers break, or `None` where they are offsets.
-pub(crate) fn error_code<O: Offset>(offsets: &[O]) -> Option<u32>
+pub(crate) fn error_code<O: OffsetNumber>(offsets: &[O]) -> Option<u32>
     ensures none { IfNone result (AreOffsetsUpTo O.MAX (map O.value offsets.now)) }
     ensures some { IfSome result (λ code. ReportsBrokenRule code (map O.value offsets.now)) }
 {
@@ -28,7 +28,7 @@ pub(crate) fn error_code<O: Offset>(offsets: &[O]) -> Option<u32>
 }
 
 /// Returns `ARROW2_OK` where the numbers are offsets, else the code of the first rule that they break.
-pub(crate) fn check<O: Offset>(offsets: &[O]) -> u32
+pub(crate) fn check<O: OffsetNumber>(offsets: &[O]) -> u32
     ensures ok { result ≡ ARROW2_OK ↔ AreOffsets (map O.value offsets.now) }
     ensures broken { result ≢ ARROW2_OK →
         result ≡ rule_code (first_broken_rule (map O.value offsets.now)) }
@@ -40,7 +40,7 @@ pub(crate) fn check<O: Offset>(offsets: &[O]) -> u32
 ///
 /// Returns the code of `check` where the numbers are not offsets, else `ARROW2_LENGTH` exactly where the number of
 /// items of `lengths` is not that of `offsets` minus 1. Writes nothing but with `ARROW2_OK`.
-pub(crate) fn lengths<O: Offset>(offsets: &[O], lengths: &mut [usize]) -> u32
+pub(crate) fn lengths<O: OffsetNumber>(offsets: &[O], lengths: &mut [usize]) -> u32
     ensures { WritesFromOffsets result (map O.value offsets.now)
         (length offsets.now ≡ length lengths.old + 1)
         (lengths.new ≡ lengths_of (map O.value offsets.now)) (lengths.new ≡ lengths.old) }
@@ -55,7 +55,7 @@ pub(crate) fn lengths<O: Offset>(offsets: &[O], lengths: &mut [usize]) -> u32
 ///
 /// Returns `ARROW2_LENGTH` exactly where the number of items of `lengths` is not that of `offsets` minus 1. Writes
 /// nothing but with `ARROW2_OK`.
-pub(crate) fn lengths_unchecked<O: Offset>(offsets: &[O], lengths: &mut [usize]) -> u32
+pub(crate) fn lengths_unchecked<O: OffsetNumber>(offsets: &[O], lengths: &mut [usize]) -> u32
     requires valid { AreOffsets (map O.value offsets.now) }
     ensures { WritesFromOffsets result (map O.value offsets.now)
         (length offsets.now ≡ length lengths.old + 1)
@@ -73,7 +73,7 @@ pub(crate) fn lengths_unchecked<O: Offset>(offsets: &[O], lengths: &mut [usize])
 /// Returns `ARROW2_LENGTH` exactly where the number of items of `offsets` is not that of `lengths` plus 1, else
 /// `ARROW2_OVERFLOW` exactly where `start` and all lengths, added up exactly, are above `O::MAX`. Writes nothing but
 /// with `ARROW2_OK`.
-pub(crate) fn sums<O: Offset>(start: usize, lengths: &[usize], offsets: &mut [O]) -> u32
+pub(crate) fn sums<O: OffsetNumber>(start: usize, lengths: &[usize], offsets: &mut [O]) -> u32
     ensures length { result ≡ ARROW2_LENGTH ↔ (length offsets.old ≢ length lengths.now + 1) }
     ensures overflow { result ≡ ARROW2_OVERFLOW ↔
         ((result ≢ ARROW2_LENGTH) × (O.MAX < last_offset start lengths.now)) }
@@ -97,7 +97,7 @@ pub(crate) fn sums<O: Offset>(start: usize, lengths: &[usize], offsets: &mut [O]
 /// Returns the code of `check` where the numbers are not offsets, else `ARROW2_LENGTH` exactly where `out` has no item,
 /// else `ARROW2_RANGE` exactly where `from` plus the number of items of `out` is above that of `offsets`. Writes
 /// nothing but with `ARROW2_OK`.
-pub(crate) fn rebase<O: Offset>(offsets: &[O], from: usize, out: &mut [O]) -> u32
+pub(crate) fn rebase<O: OffsetNumber>(offsets: &[O], from: usize, out: &mut [O]) -> u32
     ensures { RebasesTo result (map O.value offsets.now) from (length out.old)
         (map O.value out.new) (out.new ≡ out.old) }
 {
@@ -112,7 +112,7 @@ pub(crate) fn rebase<O: Offset>(offsets: &[O], from: usize, out: &mut [O]) -> u3
 ///
 /// Returns `ARROW2_LENGTH` exactly where `out` has no item, else `ARROW2_RANGE` exactly where `from` plus the number of
 /// items of `out` is above that of `offsets`. Writes nothing but with `ARROW2_OK`.
-pub(crate) fn rebase_unchecked<O: Offset>(offsets: &[O], from: usize, out: &mut [O]) -> u32
+pub(crate) fn rebase_unchecked<O: OffsetNumber>(offsets: &[O], from: usize, out: &mut [O]) -> u32
     requires valid { AreOffsets (map O.value offsets.now) }
     ensures { RebasesTo result (map O.value offsets.now) from (length out.old)
         (map O.value out.new) (out.new ≡ out.old) }

@@ -2,7 +2,7 @@
 ghost use Rattle.std.specs.Prelude.{◌≤◌};
 
 use super::checks::{has, ok};
-use arrow2_index::{Index, IndexRange, Offset};
+use arrow2_index::{Index, IndexRange, OffsetNumber};
 use std::alloc::Global;
 use std::process::Abort;
 
@@ -22,7 +22,7 @@ fn numbers_are_converted_where_they_fit(rt: HostRuntime) {
     has(&rt, &large, &[false, true, false]);
     let nine = usize::from(u16::from_as_usize(9));
     has(&rt, &[7i32.to_usize(), nine], &[7, 9]);
-    let greatest = [<i32 as Offset>::MAX, <i64 as Offset>::MAX];
+    let greatest = [<i32 as OffsetNumber>::MAX, <i64 as OffsetNumber>::MAX];
     has(&rt, &greatest, &[2147483647, 9223372036854775807]);
 }
 

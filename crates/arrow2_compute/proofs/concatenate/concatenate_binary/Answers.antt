@@ -65,5 +65,5 @@ returns-clause-fits g c =
     let whole = take_all c.loop-array.array-index others c.loop-array-test.false in
     let bytes = last.bytes ∙ ap (λ arrays. slot_bytes first + sum_by size arrays) whole in
     let count = ap length (last.items ∙ ap (λ arrays. binary_items first ++ flat_map items arrays) whole) in
-    of-ok c.freeze.result ((slot_bytes first + sum_by size others ≤ g.O.Offset.MAX) × (length (binary_items first ++ flat_map items others) < 2 ^ 64))
+    of-ok c.freeze.result ((slot_bytes first + sum_by size others ≤ g.O.OffsetNumber.MAX) × (length (binary_items first ++ flat_map items others) < 2 ^ 64))
     (omega (arith, bytes, last.fits), omega (arith, count, last.counted))

@@ -72,7 +72,7 @@ returns-in_err-extend_from_array-clause-only g c =
     let slots : length mask ≡ length lengths = c.requires.same_length ∙ (sym c.count-len.ensures.items ∙ c.count-len.ensures.slots) in
     let all = ap sum (selected-runs lengths mask slots) in
     let most = sum-selected lengths mask in
-    let spare : kept.bytes + sum (part lengths c.in-Some.start c.in-Some.len) ≤ g.O.Offset.MAX = omega (arith, more, all, most, c.loop-start.invariant.bytes, c.count-len.ensures.fits) in
+    let spare : kept.bytes + sum (part lengths c.in-Some.start c.in-Some.len) ≤ g.O.OffsetNumber.MAX = omega (arith, more, all, most, c.loop-start.invariant.bytes, c.count-len.ensures.fits) in
     grind (arith, common_steps, counted, spare)
 
 pub returns-clause-items : goal.returns-clause-items

@@ -51,4 +51,4 @@ returns-clause-fits g c =
     let ys = binary_items c.args.rhs.now in
     let all = chosen-all ms xs ys c.loop-position.position _ c.len-position-end.ensures.items c.requires.left c.requires.right c.loop-position-test.false in
     let bytes = c.loop-position.invariant.bytes ∙ ap (sum_by item_bytes) (c.loop-position.invariant.items ∙ all) in
-    of-ok c.freeze.result (sum_by item_bytes (choice ms xs ys) ≤ g.O.Offset.MAX) (omega (arith, bytes, c.loop-position.invariant.fits))
+    of-ok c.freeze.result (sum_by item_bytes (choice ms xs ys) ≤ g.O.OffsetNumber.MAX) (omega (arith, bytes, c.loop-position.invariant.fits))

@@ -9,6 +9,6 @@ abbrev pub invariant-loop-position : goal.invariant-loop-position
 invariant-loop-position g l = record {
   items : l.items.items ≡ choice (take l.position (items_of l.mask)) (take l.position (binary_items l.lhs)) (take l.position (binary_items l.rhs));
   bytes : l.items.bytes ≡ sum_by item_bytes l.items.items;
-  fits : l.items.bytes ≤ g.O.Offset.MAX;
+  fits : l.items.bytes ≤ g.O.OffsetNumber.MAX;
   data_type : l.items.data_type ≡ l.lhs.data_type;
 }

@@ -37,4 +37,4 @@ returns-clause-fits g c =
     let items = λ (index : ℕ). slice_index_or (binary_items c.args.array.now) index None in
     let all = c.loop-index.invariant.items ∙ ap (map items) (take_all c.loop-index.index-index c.args.indices.now c.loop-index-test.false) in
     let bytes = c.loop-index.invariant.bytes ∙ ap (sum_by item_bytes) all in
-    of-ok c.freeze.result (sum_by item_bytes (map items c.args.indices.now) ≤ g.O.Offset.MAX) (omega (arith, bytes, c.loop-index.invariant.fits))
+    of-ok c.freeze.result (sum_by item_bytes (map items c.args.indices.now) ≤ g.O.OffsetNumber.MAX) (omega (arith, bytes, c.loop-index.invariant.fits))

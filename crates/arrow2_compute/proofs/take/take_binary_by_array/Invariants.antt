@@ -9,6 +9,6 @@ abbrev pub invariant-loop-position : goal.invariant-loop-position
 invariant-loop-position g l = record {
   items : l.taken.items ≡ map (item_at g.I.Number.value (binary_items l.array)) (take l.position (primitive_items l.indices));
   bytes : l.taken.bytes ≡ sum_by item_bytes l.taken.items;
-  fits : l.taken.bytes ≤ g.O.Offset.MAX;
+  fits : l.taken.bytes ≤ g.O.OffsetNumber.MAX;
   data_type : l.taken.data_type ≡ l.array.data_type;
 }

@@ -17,7 +17,7 @@ loop-length-init g c =
     let some = c.requires.valid.0.some in
     let many = length-map items v in
     record {
-      last = same_naturals c.to_usize-last.result _ _ c.to_usize-last.ensures.value is ∙ omega arith;
+      last = same_naturals c.as_usize-last.result _ _ c.as_usize-last.ensures.value is ∙ omega arith;
       grown = λ _. (c.requires.valid.0, (refl {a = start_of (map v items)}, sym (append-nil (lengths_of (map v items)))));
       front = take_all (length items) items (omega arith);
       more = omega arith;

@@ -1,8 +1,8 @@
 use Rattle.arrow2_offset.proofs.Growing.{ends_in_order, spread}
 use Rattle.arrow2_offset.proofs.slot.total_length.Goals as goal
 
-pub distance_to-requires : goal.distance_to-requires
-distance_to-requires g c = ends_in_order g.O.Number.value c.args.offsets.now c.index-offsets-0.result c.index-offsets-offsets.result c.requires c.index-offsets-0.is c.index-offsets-offsets.is
+pub distance-requires : goal.distance-requires
+distance-requires g c = ends_in_order g.O.Number.value c.args.offsets.now c.index-offsets-0.result c.index-offsets-offsets.result c.requires c.index-offsets-0.is c.index-offsets-offsets.is
 
 pub returns : goal.returns
-returns g c = spread g.O.Number.value c.args.offsets.now c.index-offsets-0.result c.index-offsets-offsets.result c.distance_to.result c.requires c.index-offsets-0.is c.index-offsets-offsets.is c.distance_to.ensures
+returns g c = spread g.O.Number.value c.args.offsets.now c.index-offsets-0.result c.index-offsets-offsets.result c.distance.result c.requires c.index-offsets-0.is c.index-offsets-offsets.is c.distance.ensures

@@ -8,5 +8,5 @@ invariant-loop-length g l = record {
   grown : l.self.lengths ++ l.length-iterator ≡ l.fn.self.lengths ++ lengths_of (map g.O.Number.value l.offsets);
   spare : slots l.self + length l.length-iterator ≤ l.self.capacity;
   capacity : l.fn.self.capacity ≤ l.self.capacity;
-  fits : last_of_growing l.self + sum l.length-iterator ≤ g.O.Offset.MAX;
+  fits : last_of_growing l.self + sum l.length-iterator ≤ g.O.OffsetNumber.MAX;
 }

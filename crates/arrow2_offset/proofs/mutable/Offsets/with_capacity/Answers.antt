@@ -4,10 +4,10 @@ use Rattle.arrow2_offset.proofs.mutable.Offsets.with_capacity.Goals as goal
 
 pub invariant_of-result : goal.invariant_of-result
 invariant_of-result g c =
-    let zero = ap g.O.Number.value c.zero.ensures ∙ g.met.O.Zero.zero_law g.met.O.Integral.exact_law in
-    (alone g.O.Number.value g.O.Offset.MAX c.in_ok-offsets.offsets.items c.push.new.self.items c.zero.result c.in_ok-offsets.ensures.items c.in_ok-push.ensures.items zero).0
+    let zero = c.usize_as.ensures in
+    (alone g.O.Number.value g.O.OffsetNumber.MAX c.in_ok-offsets.offsets.items c.push.new.self.items c.usize_as.result c.in_ok-offsets.ensures.items c.in_ok-push.ensures.items zero).0
 
 pub returns-clause-ok : goal.returns-clause-ok
 returns-clause-ok g c =
-    let zero = ap g.O.Number.value c.zero.ensures ∙ g.met.O.Zero.zero_law g.met.O.Integral.exact_law in
-    let d = alone g.O.Number.value g.O.Offset.MAX c.in_ok-offsets.offsets.items c.push.new.self.items c.zero.result c.in_ok-offsets.ensures.items c.in_ok-push.ensures.items zero in (d.1, d.2)
+    let zero = c.usize_as.ensures in
+    let d = alone g.O.Number.value g.O.OffsetNumber.MAX c.in_ok-offsets.offsets.items c.push.new.self.items c.usize_as.result c.in_ok-offsets.ensures.items c.in_ok-push.ensures.items zero in (d.1, d.2)

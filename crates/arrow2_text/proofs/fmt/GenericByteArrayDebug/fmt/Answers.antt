@@ -9,7 +9,7 @@ pub returns : goal.returns
 returns g c =
     let text = item_output g.T.ByteArrayType.output in
     let took = g.W.Write.write_str_gives in
-    let head = g.T.ByteArrayType.head g.O.Offset.IS_LARGE in
+    let head = g.T.ByteArrayType.head g.O.OffsetNumber.IS_LARGE in
     let items = debug_list text (binary_items c.args.self.now) in
     let f = c.args.f.now in
     let between = c.write_str.new.self in

@@ -7,7 +7,7 @@ use Rattle.arrow2_text.proofs.generic_byte_array.GenericByteArray.from_items.Goa
 pub returns-in_err-extend_from_items-clause-overflow : goal.returns-in_err-extend_from_items-clause-overflow
 returns-in_err-extend_from_items-clause-overflow g c = λ is.
     let new = c.in_ok-array.ensures in
-    past-all g.S.AsItem.item c.args.items.now g.O.Offset.MAX c.in_ok-array.array.bytes (bytes_of_items (map g.S.AsItem.item c.args.items.now)) new.items.0 new.items.1 (λ h. not-failed _ _ (new.overflow.1 h))
+    past-all g.S.AsItem.item c.args.items.now g.O.OffsetNumber.MAX c.in_ok-array.array.bytes (bytes_of_items (map g.S.AsItem.item c.args.items.now)) new.items.0 new.items.1 (λ h. not-failed _ _ (new.overflow.1 h))
     (c.in_err-extend_from_items.ensures.overflow.0 (ap (λ e. Err e) (handed-on c.from_residual-in_err-extend_from_items.result Overflow c.in_err-extend_from_items.field-0.0 c.from_residual-in_err-extend_from_items.ensures.1 is)))
 
 pub returns-clause-items : goal.returns-clause-items

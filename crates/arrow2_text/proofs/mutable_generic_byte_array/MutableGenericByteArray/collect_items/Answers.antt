@@ -34,4 +34,4 @@ returns-in_err-push_bytes-clause-overflow g c = λ is.
     let all = c.loop-item.yielded ++ c.in-Some.item ∷ [] in
     let more = Yields-more g.I.Iterator.next_gives it.result c.loop-item.yielded c.loop-item.item-iterator c.in-Some.item c.next.new.self c.loop-item.yielded_by c.in-Some.ensures.steps in
     let past = c.in_err-push_bytes.ensures.overflow.0 (ap (λ e. Err e) (handed-on c.from_residual-in_err-push_bytes.result Overflow c.in_err-push_bytes.field-0.0 c.from_residual-in_err-push_bytes.ensures.1 is)) in
-    (all, c.next.new.self, subst (λ s. Yields g.I.Iterator.next_gives s all c.next.new.self) it.ensures.into_iter_gives more, past-collected g.S.AsItem.item g.O.Offset.MAX c.loop-item.yielded c.in-Some.item kept.items kept.bytes (rw c.as_item.ensures.value at past))
+    (all, c.next.new.self, subst (λ s. Yields g.I.Iterator.next_gives s all c.next.new.self) it.ensures.into_iter_gives more, past-collected g.S.AsItem.item g.O.OffsetNumber.MAX c.loop-item.yielded c.in-Some.item kept.items kept.bytes (rw c.as_item.ensures.value at past))

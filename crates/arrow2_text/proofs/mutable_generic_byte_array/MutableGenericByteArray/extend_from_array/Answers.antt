@@ -25,7 +25,7 @@ returns g c =
     let inside_values : k + n ≤ length xs = omega (arith, counts.values, counts.items, same, c.requires.inside) in
     let e : length (part vs k n) ≡ length (part xs k n) = length-part vs k n inside_valid ∙ sym (length-part xs k n inside_values) in
     let whole : part (binary_items b) k n ≡ zipped (part xs k n) (part vs k n) = part-zipped xs vs k n (sym counts.validity ∙ counts.values) in
-    rw (← c.self.view_is, ← c.slots-slots.ensures.value, whole) (appends-items g.O.Offset.MAX c.self.inside.slots c.extend.new.self (part xs k n) (part vs k n) (sum (part (lengths_of (buffer_items b.offsets)) k n)) e c.extend.result c.extend.ensures)
+    rw (← c.self.view_is, ← c.slots-slots.ensures.value, whole) (appends-items g.O.OffsetNumber.MAX c.self.inside.slots c.extend.new.self (part xs k n) (part vs k n) (sum (part (lengths_of (buffer_items b.offsets)) k n)) e c.extend.result c.extend.ensures)
 
 pub invariant_of-self : goal.invariant_of-self
 invariant_of-self g c =
@@ -33,5 +33,5 @@ invariant_of-self g c =
     let k = c.args.start in
     let n = c.args.len in (
       ap physical c.extend.ensures.data_type ∙ c.self.invariant.0,
-      grown-values g.T.ByteArrayType.IsValue g.O.Offset.MAX c.self.inside.slots c.extend.new.self (part (binary_values b) k n) (part (valid_items b.validity) k n) (sum (part (lengths_of (buffer_items b.offsets)) k n)) c.extend.result c.extend.ensures c.self.invariant.1 (part-values g.T.ByteArrayType.IsValue (binary_values b) k n (g.T.ByteArrayType.each _ _ c.slots-slots.ensures.fits)),
+      grown-values g.T.ByteArrayType.IsValue g.O.OffsetNumber.MAX c.self.inside.slots c.extend.new.self (part (binary_values b) k n) (part (valid_items b.validity) k n) (sum (part (lengths_of (buffer_items b.offsets)) k n)) c.extend.result c.extend.ensures c.self.invariant.1 (part-values g.T.ByteArrayType.IsValue (binary_values b) k n (g.T.ByteArrayType.each _ _ c.slots-slots.ensures.fits)),
     )

@@ -9,12 +9,12 @@ pub returns : goal.returns
 returns g c =
     let n = c.args.additional in
     let item = option_copied c.args.item in
-    rw (← c.self.view_is) (appends-copies n item g.O.Offset.MAX c.self.inside.slots c.extend_constant.new.self (n * option_map_or length item 0) c.extend_constant.result c.extend_constant.ensures)
+    rw (← c.self.view_is) (appends-copies n item g.O.OffsetNumber.MAX c.self.inside.slots c.extend_constant.new.self (n * option_map_or length item 0) c.extend_constant.result c.extend_constant.ensures)
 
 pub invariant_of-self : goal.invariant_of-self
 invariant_of-self g c =
     let n = c.args.additional in
     let item = option_copied c.args.item in (
       ap physical c.extend_constant.ensures.data_type ∙ c.self.invariant.0,
-      grown-values g.T.ByteArrayType.IsValue g.O.Offset.MAX c.self.inside.slots c.extend_constant.new.self (replicate n (unwrap_or item [])) (replicate n (is_some item)) (n * option_map_or length item 0) c.extend_constant.result c.extend_constant.ensures c.self.invariant.1 (copied-values g.T.ByteArrayType.IsValue g.T.ByteArrayType.no_bytes n item c.requires.known),
+      grown-values g.T.ByteArrayType.IsValue g.O.OffsetNumber.MAX c.self.inside.slots c.extend_constant.new.self (replicate n (unwrap_or item [])) (replicate n (is_some item)) (n * option_map_or length item 0) c.extend_constant.result c.extend_constant.ensures c.self.invariant.1 (copied-values g.T.ByteArrayType.IsValue g.T.ByteArrayType.no_bytes n item c.requires.known),
     )

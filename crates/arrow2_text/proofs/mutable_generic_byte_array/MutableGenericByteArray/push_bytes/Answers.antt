@@ -8,5 +8,5 @@ pub invariant_of-self : goal.invariant_of-self
 invariant_of-self g c =
     let value = c.unwrap_or.result.now in (
       ap physical c.push.ensures.data_type ∙ c.self.invariant.0,
-      grown-values g.T.ByteArrayType.IsValue g.O.Offset.MAX c.self.inside.slots c.push.new.self (value ∷ []) (c.is_some-valid.result ∷ []) (length value) c.push.result c.push.ensures c.self.invariant.1 (one-known g.T.ByteArrayType.IsValue g.T.ByteArrayType.no_bytes (option_copied c.args.item) value (value-by_option c.args.item c.unwrap_or.result _ c.unwrap_or.ensures refl) c.requires.known),
+      grown-values g.T.ByteArrayType.IsValue g.O.OffsetNumber.MAX c.self.inside.slots c.push.new.self (value ∷ []) (c.is_some-valid.result ∷ []) (length value) c.push.result c.push.ensures c.self.invariant.1 (one-known g.T.ByteArrayType.IsValue g.T.ByteArrayType.no_bytes (option_copied c.args.item) value (value-by_option c.args.item c.unwrap_or.result _ c.unwrap_or.ensures refl) c.requires.known),
     )
