@@ -17,7 +17,9 @@ use arrow2_text::{ByteArrayType, GenericByteArray};
 /// of [`crate::comparison::binary`]: the first bytes that differ decide, else the lengths. Does not allocate.
 ///
 /// Stands for arrow2's `min_binary` and `min_string`.
-pub fn min_binary<T: ByteArrayType, O: OffsetNumber>(array: &GenericByteArray<T, O>) -> Option<&[u8]>
+pub fn min_binary<T: ByteArrayType, O: OffsetNumber>(
+    array: &GenericByteArray<T, O>,
+) -> Option<&[u8]>
     ensures { IsExtremum (λ x y. IsTrue (partial_le bytes_cmp x y)) (binary_items array.now)
         (option_copied result) }
 {
@@ -28,7 +30,9 @@ pub fn min_binary<T: ByteArrayType, O: OffsetNumber>(array: &GenericByteArray<T,
 /// that of [`crate::comparison::binary`]: the first bytes that differ decide, else the lengths. Does not allocate.
 ///
 /// Stands for arrow2's `max_binary` and `max_string`.
-pub fn max_binary<T: ByteArrayType, O: OffsetNumber>(array: &GenericByteArray<T, O>) -> Option<&[u8]>
+pub fn max_binary<T: ByteArrayType, O: OffsetNumber>(
+    array: &GenericByteArray<T, O>,
+) -> Option<&[u8]>
     ensures { IsExtremum (λ x y. IsTrue (partial_ge bytes_cmp x y)) (binary_items array.now)
         (option_copied result) }
 {

@@ -75,7 +75,7 @@ fn first_past<O: OffsetNumber>(offsets: &[O], items: usize) -> usize
     ensures { IsFirstPast (map O.value offsets.now) items result }
 {
     for index in 0..offsets.len() - 1 {
-        if offsets[index].to_usize() > items {
+        if offsets[index].as_usize() > items {
             return index;
         }
     }

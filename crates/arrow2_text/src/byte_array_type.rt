@@ -145,7 +145,11 @@ impl ByteArrayType for BinaryType {
         "BinaryArray can only be initialized with DataType::Binary or DataType::LargeBinary"
     }
 
-    fn check<O: OffsetNumber>(alloc: Global, offsets: &OffsetsBuffer<O>, bytes: &[u8]) -> Result<()> {
+    fn check<O: OffsetNumber>(
+        alloc: Global,
+        offsets: &OffsetsBuffer<O>,
+        bytes: &[u8],
+    ) -> Result<()> {
         check_bounds(alloc, offsets, bytes.len())
     }
 
@@ -205,7 +209,11 @@ impl ByteArrayType for Utf8Type {
         "Utf8Array can only be initialized with DataType::Utf8 or DataType::LargeUtf8"
     }
 
-    fn check<O: OffsetNumber>(alloc: Global, offsets: &OffsetsBuffer<O>, bytes: &[u8]) -> Result<()> {
+    fn check<O: OffsetNumber>(
+        alloc: Global,
+        offsets: &OffsetsBuffer<O>,
+        bytes: &[u8],
+    ) -> Result<()> {
         check_texts(alloc, offsets, bytes)
     }
 

@@ -72,7 +72,10 @@ pub(crate) fn check_texts<O: OffsetNumber>(
 }
 
 /// Returns an error exactly if the physical type of `data_type` is not that of arrays for `T` with offsets of type `O`.
-fn check_layout<T: ByteArrayType, O: OffsetNumber>(alloc: Global, data_type: &DataType) -> Result<()>
+fn check_layout<T: ByteArrayType, O: OffsetNumber>(
+    alloc: Global,
+    data_type: &DataType,
+) -> Result<()>
     ensures accepted { IsOk result ↔ (physical data_type.now ≡ T.layout O.IS_LARGE) }
     ensures rejected { FailsOnlyWith result T.other_layout_message }
 {

@@ -100,7 +100,11 @@ pub fn try_check_offsets_and_utf8<O: OffsetNumber>(
 ///
 /// Requires offsets and values that [`try_check_utf8`] accepts, and that `slot` is below [`OffsetsBuffer::len_proxy`].
 /// arrow2 has no such call.
-pub fn text_at<'a, O: OffsetNumber>(offsets: &OffsetsBuffer<O>, values: &'a [u8], slot: usize) -> &'a str
+pub fn text_at<'a, O: OffsetNumber>(
+    offsets: &OffsetsBuffer<O>,
+    values: &'a [u8],
+    slot: usize,
+) -> &'a str
     requires texts { AreTexts (buffer_items offsets.now) values.now }
     requires below { slot < length (lengths_of (buffer_items offsets.now)) }
     ensures { result.now ≡ slice_index_or (slot_values (buffer_items offsets.now) values.now) slot

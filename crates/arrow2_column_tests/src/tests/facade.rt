@@ -22,7 +22,9 @@ pub use arrow2::datatypes::{
 };
 pub use arrow2::error::{Error, Result as ErrorResult};
 use arrow2::laws;
-pub use arrow2::offset::{BrokenRule, Lengths, Offset, Offsets, OffsetsBuffer, broken_rule};
+pub use arrow2::offset::{
+    BrokenRule, Lengths, Offset, OffsetNumber, Offsets, OffsetsBuffer, broken_rule,
+};
 pub use arrow2::types::{
     BitChunk, BitChunkIter, BitChunkOnes, Index, IndexRange, NativeType, days_ms, i256,
     months_days_ns,

@@ -21,11 +21,7 @@ fn values_of<T: Copy>(rt: &impl Abort, alloc: Global, items: &[Option<T>]) -> Ve
 }
 
 /// Returns the array of these items, a part of one that has an item before them, and an item and a null after them.
-fn texts_together(
-    rt: &impl Abort,
-    alloc: Global,
-    items: &[Option<&str>],
-) -> Utf8Array<i32> {
+fn texts_together(rt: &impl Abort, alloc: Global, items: &[Option<&str>]) -> Utf8Array<i32> {
     let mut array = ok(rt, MutableUtf8Array::<i32>::new(alloc));
     ok(rt, array.extend_from_slice(&["before"]));
     ok(rt, array.extend_from_options(items));
@@ -38,11 +34,7 @@ fn texts_together(
 }
 
 /// Returns the array of these items, a part of one that has an item before them, and an item and a null after them.
-fn bytes_together(
-    rt: &impl Abort,
-    alloc: Global,
-    items: &[Option<&[u8]>],
-) -> BinaryArray<i64> {
+fn bytes_together(rt: &impl Abort, alloc: Global, items: &[Option<&[u8]>]) -> BinaryArray<i64> {
     let mut array = ok(rt, MutableBinaryArray::<i64>::new(alloc));
     ok(rt, array.extend_from_slice(&[&[0xff, 0]]));
     ok(rt, array.extend_from_options(items));
@@ -125,11 +117,7 @@ fn texts_come_in_order(rt: &impl Abort, array: &Utf8Array<i32>, items: &[Option<
 }
 
 /// Checks the items that an iterator over texts gives from the last one on.
-fn texts_come_from_the_back(
-    rt: &impl Abort,
-    array: &Utf8Array<i32>,
-    items: &[Option<&str>],
-) {
+fn texts_come_from_the_back(rt: &impl Abort, array: &Utf8Array<i32>, items: &[Option<&str>]) {
     let mut iter = array.iter();
     for item in items.iter().rev() {
         assert_that(rt, iter.next_back() == Some(*item));

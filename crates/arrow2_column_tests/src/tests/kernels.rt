@@ -402,11 +402,7 @@ pub(super) fn texts_below(
 }
 
 /// Returns the array of these texts, a slice of a slice that begins after two others.
-pub(super) fn texts(
-    rt: &impl Abort,
-    alloc: Global,
-    items: &[Option<&str>],
-) -> Utf8Array<i32>
+pub(super) fn texts(rt: &impl Abort, alloc: Global, items: &[Option<&str>]) -> Utf8Array<i32>
     ensures { length (binary_items result) ≡ length items.now }
 {
     let mut array = ok(rt, MutableUtf8Array::<i32>::new(alloc));
@@ -520,13 +516,7 @@ fn texts_are_taken_by_arrays(
 }
 
 /// Checks the kernels of texts at a length.
-fn text_kernels_agree_at(
-    rt: &impl Abort,
-    alloc: Global,
-    len: usize,
-    nulls: usize,
-    others: usize,
-) {
+fn text_kernels_agree_at(rt: &impl Abort, alloc: Global, len: usize, nulls: usize, others: usize) {
     let left = texts_below(rt, alloc, len, 1, nulls);
     let right = texts_below(rt, alloc, len, 3, others);
     let flags = flags_of(rt, alloc, len);

@@ -4,14 +4,14 @@ use arrow2::array::{BinaryArray, MutableBinaryArray, MutableUtf8Array, Utf8Array
 use arrow2::buffer::Buffer;
 use arrow2::datatypes;
 use arrow2::error::Result;
-use arrow2::offset::{Offset, OffsetsBuffer};
+use arrow2::offset::{OffsetNumber, OffsetsBuffer};
 use either::Either;
 use std::alloc::Global;
 use std::convert::TryFrom;
 use std::process::Abort;
 
 /// Returns the array of two texts with a null between them.
-fn texts_of<O: Offset>(rt: &impl Abort, alloc: Global) -> Utf8Array<O> {
+fn texts_of<O: OffsetNumber>(rt: &impl Abort, alloc: Global) -> Utf8Array<O> {
     let mut texts = ok(rt, MutableUtf8Array::<O>::new(alloc));
     ok(rt, texts.push(Some("é")));
     ok(rt, texts.push(None));
@@ -20,7 +20,7 @@ fn texts_of<O: Offset>(rt: &impl Abort, alloc: Global) -> Utf8Array<O> {
 }
 
 /// Checks the texts, whole and in part.
-fn texts_are_read<O: Offset>(rt: &impl Abort, alloc: Global) {
+fn texts_are_read<O: OffsetNumber>(rt: &impl Abort, alloc: Global) {
     let mut texts = texts_of::<O>(rt, alloc);
     assert_that(rt, texts.len() == 3);
     assert_that(rt, texts.null_count() == 1);

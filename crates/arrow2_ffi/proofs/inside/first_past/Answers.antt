@@ -6,17 +6,17 @@ use Rattle.arrow2_offset.proofs.Appending.{value_natural}
 use Rattle.arrow2_offset.proofs.OffsetLists.{get_or-last}
 use Rattle.arrow2_ffi.proofs.inside.first_past.Goals as goal
 
-pub to_usize-requires : goal.to_usize-requires
-to_usize-requires g c = value_natural g.O.Number.value c.args.offsets.now c.index-offsets-index.result c.loop-index.index c.requires.valid (omega (arith, c.loop-index-test.true)) c.index-offsets-index.is
+pub as_usize-requires : goal.as_usize-requires
+as_usize-requires g c = value_natural g.O.Number.value c.args.offsets.now c.index-offsets-index.result c.loop-index.index c.requires.valid (omega (arith, c.loop-index-test.true)) c.index-offsets-index.is
 
 pub loop-index-preserved : goal.loop-index-preserved
 loop-index-preserved g c =
     let v = g.O.Number.value in
     let items = c.args.offsets.now in
     let i = c.loop-index.index in
-    let at-most : pos c.to_usize.result ≤ℤ pos c.args.items = omega (arith, ints, c.if-to_usize-items.false) in
+    let at-most : pos c.as_usize.result ≤ℤ pos c.args.items = omega (arith, ints, c.if-as_usize-items.false) in
     let here : slice_index_or (map v items) i (pos 0) ≤ℤ pos c.args.items =
-    rw (get_or-map v items i c.index-offsets-index.result (pos 0) (omega (arith, c.loop-index-test.true)), ← c.index-offsets-index.is, ← c.to_usize.ensures.value) at-most in
+    rw (get_or-map v items i c.index-offsets-index.result (pos 0) (omega (arith, c.loop-index-test.true)), ← c.index-offsets-index.is, ← c.as_usize.ensures.value) at-most in
     below_more _ _ c.loop-index.invariant here
 
 pub returns : goal.returns
