@@ -1,7 +1,7 @@
 //! Offsets.
 
 use crate::runs::{Part, on_each, on_firsts};
-use arrow2_index::Offset;
+use arrow2_index::OffsetNumber;
 use arrow2_offset::{Offsets, OffsetsBuffer};
 use arrow2_types::Result;
 use std::alloc::Global;
@@ -76,7 +76,7 @@ fn try_from(alloc: Global, items: &[i64], lengths: &[usize]) -> usize {
 }
 
 /// A buffer of a copy of the items, which are checked to be offsets.
-fn buffer<O: Offset>(alloc: Global, items: &[O]) -> Result<OffsetsBuffer<O>> {
+fn buffer<O: OffsetNumber>(alloc: Global, items: &[O]) -> Result<OffsetsBuffer<O>> {
     OffsetsBuffer::try_from(Vec::from_slice(alloc, items)?)
 }
 
