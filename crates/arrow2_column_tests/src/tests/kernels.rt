@@ -453,65 +453,89 @@ fn has_bytes(rt: &impl Abort, call: Result<BinaryArray<i32>>, items: &[Option<&s
     }
 }
 
-/// Checks the kernels of texts and of byte strings on two lists of equal length.
-fn text_kernels_agree(
+/// Selects texts and byte strings by a mask.
+fn texts_are_filtered(rt: &impl Abort, alloc: Global, flags: &[bool], items: &[Option<&str>]) {
+    let (a, mask) = (texts(rt, alloc, items), mask_of(rt, alloc, flags));
+    assert_that(rt, mask.len() == a.len());
+    let list = keep(rt, alloc, flags, items);
+    has_texts(rt, filter_binary(&a, &mask), list.as_slice());
+    let bytes = ok(rt, a.into_binary());
+    assert_that(rt, mask.len() == bytes.len());
+    has_bytes(rt, filter_binary(&bytes, &mask), list.as_slice());
+}
+
+/// Chooses between two lists of texts, and of byte strings.
+fn texts_are_chosen(
     rt: &impl Abort,
     alloc: Global,
     flags: &[bool],
     left: &[Option<&str>],
     right: &[Option<&str>],
-)
-    requires left { length flags.now ≡ length left.now }
-    requires right { length flags.now ≡ length right.now }
-{
+) {
     let (a, b) = (texts(rt, alloc, left), texts(rt, alloc, right));
-    let (c, d) = (ok(rt, a.to_binary()), ok(rt, b.to_binary()));
     let mask = mask_of(rt, alloc, flags);
-    let list = keep(rt, alloc, flags, left);
-    has_texts(rt, filter_binary(&a, &mask), list.as_slice());
-    has_bytes(rt, filter_binary(&c, &mask), list.as_slice());
+    assert_that(rt, mask.len() == a.len() && mask.len() == b.len());
     let list = either(rt, alloc, flags, left, right);
     has_texts(rt, if_then_else_binary(&mask, &a, &b), list.as_slice());
-    has_bytes(rt, if_then_else_binary(&mask, &c, &d), list.as_slice());
-    let list = concatenation(rt, alloc, left, right);
-    has_texts(rt, concatenate_binary(&a, &[&b]), list.as_slice());
-    has_bytes(rt, concatenate_binary(&c, &[&d]), list.as_slice());
+    let (a, b) = (ok(rt, a.into_binary()), ok(rt, b.into_binary()));
+    assert_that(rt, mask.len() == a.len() && mask.len() == b.len());
+    has_bytes(rt, if_then_else_binary(&mask, &a, &b), list.as_slice());
 }
 
-/// Takes texts and byte strings at indices, and tells which of them are null.
-fn texts_are_taken(rt: &impl Abort, alloc: Global, items: &[Option<&str>]) {
+/// Joins two lists of texts, and of byte strings.
+fn texts_are_joined(rt: &impl Abort, alloc: Global, left: &[Option<&str>], right: &[Option<&str>]) {
+    let (a, b) = (texts(rt, alloc, left), texts(rt, alloc, right));
+    let list = concatenation(rt, alloc, left, right);
+    has_texts(rt, concatenate_binary(&a, &[&b]), list.as_slice());
+    let (a, b) = (ok(rt, a.into_binary()), ok(rt, b.into_binary()));
+    has_bytes(rt, concatenate_binary(&a, &[&b]), list.as_slice());
+}
+
+/// Takes texts and byte strings at indices.
+fn texts_are_taken(rt: &impl Abort, alloc: Global, items: &[Option<&str>], indices: &[usize]) {
     let a = texts(rt, alloc, items);
-    let indices = indices_below(rt, alloc, items.len());
-    let indices = indices.as_slice();
     assert_that(rt, !indices.iter().any(|index| *index >= a.len()));
     let list = at_indices(rt, alloc, items, indices);
     has_texts(rt, take_binary(&a, indices), list.as_slice());
     let bytes = ok(rt, a.to_binary());
     assert_that(rt, bytes.len() == a.len());
     has_bytes(rt, take_binary(&bytes, indices), list.as_slice());
+}
+
+/// Tells which texts are null, and which byte strings are not.
+fn nulls_of_texts_agree(rt: &impl Abort, alloc: Global, items: &[Option<&str>]) {
+    let a = texts(rt, alloc, items);
     let nulls = nulls_of(rt, alloc, items, true);
     assert_booleans(rt, alloc, is_null(&a), nulls.as_slice());
     let nulls = nulls_of(rt, alloc, items, false);
+    let bytes = ok(rt, a.into_binary());
     assert_booleans(rt, alloc, is_not_null(&bytes), nulls.as_slice());
 }
 
-/// Selects texts and byte strings by booleans, and takes them at indices, of which some are null.
-fn texts_are_taken_by_arrays(
+/// Selects texts and byte strings by booleans, of which some are null.
+fn texts_are_selected(rt: &impl Abort, alloc: Global, flags: &[bool], items: &[Option<&str>]) {
+    let a = texts(rt, alloc, items);
+    let (mask, list) = masked(rt, alloc, flags, items);
+    assert_that(rt, mask.len() == a.len());
+    has_texts(rt, filter_binary_by_array(&a, &mask), list.as_slice());
+    let bytes = ok(rt, a.into_binary());
+    assert_that(rt, mask.len() == bytes.len());
+    has_bytes(rt, filter_binary_by_array(&bytes, &mask), list.as_slice());
+}
+
+/// Takes texts and byte strings at indices, of which some are null.
+fn texts_are_taken_by_keys(
     rt: &impl Abort,
     alloc: Global,
-    flags: &[bool],
     items: &[Option<&str>],
+    indices: &[usize],
 ) {
     let a = texts(rt, alloc, items);
-    let bytes = ok(rt, a.to_binary());
-    let (mask, list) = masked(rt, alloc, flags, items);
-    assert_that(rt, mask.len() == a.len() && bytes.len() == a.len());
-    has_texts(rt, filter_binary_by_array(&a, &mask), list.as_slice());
-    has_bytes(rt, filter_binary_by_array(&bytes, &mask), list.as_slice());
-    let indices = indices_below(rt, alloc, items.len());
-    let (keys, list) = keyed(rt, alloc, items, indices.as_slice());
+    let (keys, list) = keyed(rt, alloc, items, indices);
     assert_that(rt, are_in_bounds(&keys, a.len()));
     has_texts(rt, take_binary_by_array(&a, &keys), list.as_slice());
+    let bytes = ok(rt, a.to_binary());
+    assert_that(rt, bytes.len() == a.len());
     has_bytes(rt, take_binary_by_array(&bytes, &keys), list.as_slice());
 }
 
@@ -519,11 +543,15 @@ fn texts_are_taken_by_arrays(
 fn text_kernels_agree_at(rt: &impl Abort, alloc: Global, len: usize, nulls: usize, others: usize) {
     let left = texts_below(rt, alloc, len, 1, nulls);
     let right = texts_below(rt, alloc, len, 3, others);
-    let flags = flags_of(rt, alloc, len);
-    let (left, right) = (left.as_slice(), right.as_slice());
-    text_kernels_agree(rt, alloc, flags.as_slice(), left, right);
-    texts_are_taken(rt, alloc, left);
-    texts_are_taken_by_arrays(rt, alloc, flags.as_slice(), left);
+    let (flags, indices) = (flags_of(rt, alloc, len), indices_below(rt, alloc, len));
+    let (left, flags, indices) = (left.as_slice(), flags.as_slice(), indices.as_slice());
+    texts_are_filtered(rt, alloc, flags, left);
+    texts_are_chosen(rt, alloc, flags, left, right.as_slice());
+    texts_are_joined(rt, alloc, left, right.as_slice());
+    texts_are_taken(rt, alloc, left, indices);
+    nulls_of_texts_agree(rt, alloc, left);
+    texts_are_selected(rt, alloc, flags, left);
+    texts_are_taken_by_keys(rt, alloc, left, indices);
 }
 
 #[test]
