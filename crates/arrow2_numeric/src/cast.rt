@@ -10,7 +10,7 @@ ghost use Rattle.arrow2_primitive.specs.Primitive.{primitive_items};
 use arrow2_datatypes::DataType;
 use arrow2_primitive::{MutablePrimitiveArray, PrimitiveArray};
 use arrow2_types::{Error, NativeType, Result};
-use num_traits::PrimInt;
+use num_traits::{Integral, NumCast};
 use std::alloc::Global;
 use std::rc::Rc;
 
@@ -23,10 +23,10 @@ use std::rc::Rc;
 /// # Errors
 ///
 /// Only `OutOfMemory`.
-pub fn primitive_to_primitive<I: NativeType + PrimInt, O: NativeType + PrimInt>(
-    array: &PrimitiveArray<I>,
-    data_type: Rc<DataType>,
-) -> Result<PrimitiveArray<O>>
+pub fn primitive_to_primitive<
+    I: NativeType + NumCast + Integral,
+    O: NativeType + NumCast + Integral,
+>(array: &PrimitiveArray<I>, data_type: Rc<DataType>) -> Result<PrimitiveArray<O>>
     requires layout { physical data_type.value ≡ Primitive O.PRIMITIVE }
     ensures items { IfOk result (λ a. AllZip (IsCast I.value O.value O.fits)
         (primitive_items array.now) (primitive_items a)) }
@@ -54,10 +54,10 @@ pub fn primitive_to_primitive<I: NativeType + PrimInt, O: NativeType + PrimInt>(
 /// If the value of an item does not fit `O`, it fails: with `InvalidArgumentError`, whose message has the index of the
 /// first such item, or with `OutOfMemory` if the message cannot be allocated. Otherwise the only error is
 /// `OutOfMemory`.
-pub fn try_primitive_to_primitive<I: NativeType + PrimInt, O: NativeType + PrimInt>(
-    array: &PrimitiveArray<I>,
-    data_type: Rc<DataType>,
-) -> Result<PrimitiveArray<O>>
+pub fn try_primitive_to_primitive<
+    I: NativeType + NumCast + Integral,
+    O: NativeType + NumCast + Integral,
+>(array: &PrimitiveArray<I>, data_type: Rc<DataType>) -> Result<PrimitiveArray<O>>
     requires layout { physical data_type.value ≡ Primitive O.PRIMITIVE }
     // The same numbers, the given logical type, and whether there is a bitmap.
     ensures items { IfOk result (λ a. AllZip (IsSameNumber I.value O.value)
@@ -78,7 +78,7 @@ pub fn try_primitive_to_primitive<I: NativeType + PrimInt, O: NativeType + PrimI
 }
 
 /// Returns an error if the number of an item does not fit `O`.
-fn check_fits<I: NativeType + PrimInt, O: NativeType + PrimInt>(
+fn check_fits<I: NativeType + NumCast + Integral, O: NativeType + NumCast + Integral>(
     array: &PrimitiveArray<I>,
 ) -> Result<()>
     ensures accepted { OnOk result (All (Fits I.value O.fits) (primitive_items array.now)) }
@@ -96,7 +96,9 @@ fn check_fits<I: NativeType + PrimInt, O: NativeType + PrimInt>(
 }
 
 /// Returns whether the item is null or its number fits `O`.
-fn item_fits<I: NativeType + PrimInt, O: NativeType + PrimInt>(item: Option<I>) -> bool
+fn item_fits<I: NativeType + NumCast + Integral, O: NativeType + NumCast + Integral>(
+    item: Option<I>,
+) -> bool
     ensures { MatchBool result (Fits I.value O.fits item) (¬ (Fits I.value O.fits item)) }
 {
     match item {
@@ -106,7 +108,9 @@ fn item_fits<I: NativeType + PrimInt, O: NativeType + PrimInt>(item: Option<I>) 
 }
 
 /// Returns the same number as an `O`, or `None` where the item is null, or where its number does not fit `O`.
-fn cast_item<I: NativeType + PrimInt, O: NativeType + PrimInt>(item: Option<I>) -> Option<O>
+fn cast_item<I: NativeType + NumCast + Integral, O: NativeType + NumCast + Integral>(
+    item: Option<I>,
+) -> Option<O>
     ensures { IsCast I.value O.value O.fits item result }
 {
     match item {
