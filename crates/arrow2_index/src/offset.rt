@@ -7,8 +7,9 @@ use crate::index::Index;
 use num_traits::Integral;
 
 /// What the layer needs of an offset: its value as a `usize`, the offset of a value, and the greatest one. The types and
-/// functions of offsets ask for it alone. It has few supertraits, unlike [`Index`]: a proof of generic code carries
-/// everything that the supertraits of its bounds state. Not in arrow2; `as_usize` and `usize_as` are arrow-rs's names.
+/// functions of offsets require this trait alone. It has few supertraits, unlike [`Index`]: a proof of generic code
+/// carries everything that the supertraits of its bounds state. Not in arrow2; `as_usize` and `usize_as` are arrow-rs's
+/// names.
 pub trait OffsetNumber: Copy + Integral {
     // Whether the offsets have 64 bits.
     ghost IS_LARGE: { Bool };

@@ -1,5 +1,5 @@
-//! Comparisons of two arrays, and of texts, byte strings and booleans with a scalar, at each length up to 300, and on a
-//! million items, compared with plain code over lists.
+//! Comparisons of two arrays of numbers, texts and booleans, and of byte strings and booleans with a scalar, at each
+//! length up to 300, and on a million items, compared with plain code over lists.
 
 use super::checks::{assert_booleans, assert_that, ok};
 use super::kernels::{array_of, booleans, booleans_below, numbers_below, texts, texts_below};
