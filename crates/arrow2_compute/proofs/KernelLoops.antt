@@ -26,11 +26,21 @@ module _ {X Y : Type 0} (f : Y → List X) where
   flat_map-more ys k d h = rw add-one (flat_map-next ys k d h)
 
   -- the items of the first parts, by number: at most those of all parts
-  pub length-first : (ys : List Y) (k : ℕ) → length (flat_map f (take k ys)) ≤ length (flat_map f ys)
+  length-first : (ys : List Y) (k : ℕ) → length (flat_map f (take k ys)) ≤ length (flat_map f ys)
   length-first [] zero = omega arith
   length-first [] (suc k) = omega arith
   length-first (y ∷ ys) zero = omega arith
   length-first (y ∷ ys) (suc k) = let l = length-append (f y) (flat_map f (take k ys)) in let m = length-append (f y) (flat_map f ys) in let n = length-first ys k in omega (arith, l, m, n)
+
+  -- the joined items and those of the next part, by number: at most all items
+  pub joined-fits : (first joined : List X) (ys : List Y) (k : ℕ) (d : Y) → k < length ys → joined ≡ first ++ flat_map f (take k ys) → length joined + length (f (get_or ys k d)) ≤ length (first ++ flat_map f ys)
+  joined-fits first joined ys k d h is =
+      let more = ap length (flat_map-more ys k d h) in
+      let l = length-append (flat_map f (take k ys)) (f (get_or ys k d)) in
+      let m = length-append first (flat_map f (take k ys)) in
+      let n = length-append first (flat_map f ys) in
+      let few = length-first ys (k + 1) in
+      omega (arith, more, l, m, n, few, ap length is)
 
 -- no more items are chosen than the mask has
 pub length-chosen : {X : Type 0} (k : ℕ) (ms : List Bool) (xs ys : List X) → length (choice (take k ms) xs ys) ≤ k

@@ -1,5 +1,4 @@
-use Rattle.std.proofs.Common.{◌∙◌, ◌+◌, ◌-◌, ◌*◌, ◌/◌, ◌%◌, ℕ, List, ap, arith}
-use Rattle.arrow2_model.specs.Lists.{bits, part, falses}
+use Rattle.std.proofs.Common.{◌+◌, ◌-◌, ◌/◌, ◌%◌, ℕ, arith}
 use Rattle.arrow2_bits.proofs.ZeroCounts.{zeros_in_three, touched_in_three}
 use Rattle.arrow2_bits.proofs.counts.zeros_from.Goals as goal
 
@@ -10,8 +9,8 @@ returns-clause-zeros c =
     let count : ℕ = (c.args.len - head) / 8 in
     let tail : ℕ = (c.args.len - head) % 8 in
     let kept = c.zeros_in_byte-zeros.ensures.bytes in
-    let middle = c.zeros_in_bytes.ensures.zeros ∙ ap (λ (b : List ℕ). falses (part (bits b) (8 * whole) (8 * count))) kept in
-    let last = c.zeros_in_byte-2.ensures.zeros ∙ ap (λ (b : List ℕ). falses (part (bits b) (8 * (whole + count) + 0) tail)) (c.zeros_in_bytes.ensures.bytes ∙ kept) in
+    let middle = rw kept at c.zeros_in_bytes.ensures.zeros in
+    let last = rw (c.zeros_in_bytes.ensures.bytes, kept) at c.zeros_in_byte-2.ensures.zeros in
     zeros_in_three c.args.stored.now.bytes c.args.first c.args.start c.args.len head whole count tail _ _ _ (grind (arith, c.div_ceil.ensures)) (omega arith) c.zeros_in_byte-zeros.ensures.zeros middle last
 
 pub returns-clause-reads : goal.returns-clause-reads

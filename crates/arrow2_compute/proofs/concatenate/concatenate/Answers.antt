@@ -1,7 +1,7 @@
-use Rattle.std.proofs.Common.{Bor, ◌≡◌, ◌∙◌, ◌+◌, ◌++◌, length, get_or, take, append_assoc, ap, subst, arith, IfOk, flat_map, take_all, length-append}
+use Rattle.std.proofs.Common.{Bor, ◌≡◌, ◌∙◌, ◌++◌, append_assoc, ap, subst, arith, IfOk, flat_map, take_all}
 use Rattle.std.proofs.lemmas.Grind.{common_steps}
 use Rattle.arrow2_primitive.specs.Primitive.{PrimitiveParts, primitive_items}
-use Rattle.arrow2_compute.proofs.KernelLoops.{flat_map-more, length-first, part-whole}
+use Rattle.arrow2_compute.proofs.KernelLoops.{flat_map-more, joined-fits, part-whole}
 use Rattle.arrow2_compute.proofs.concatenate.concatenate.Goals as goal
 
 pub loop-array-preserved : goal.loop-array-preserved
@@ -14,19 +14,10 @@ loop-array-preserved g c =
 -- what overflows is no more than all items
 pub returns-in_err-extend_from_array-2-clause-overflow : goal.returns-in_err-extend_from_array-2-clause-overflow
 returns-in_err-extend_from_array-2-clause-overflow g c =
-    let first = primitive_items c.args.first.now in
-    let others = c.args.others.now in
-    let index = c.loop-array.array-index in
     let array = c.array-item.result in
-    let items = λ (a : Bor (PrimitiveParts g.row.T.Denot)). primitive_items a.now in
-    let more = ap length (flat_map-more items others index array c.loop-array-test.true) in
-    let joined = length-append (flat_map items (take index others)) (items (get_or others index array)) in
-    let before = ap length c.loop-array.invariant.items in
-    let kept = length-append first (flat_map items (take index others)) in
-    let all = length-append first (flat_map items others) in
-    let few = length-first items others (index + 1) in
+    let fits = joined-fits (λ (a : Bor (PrimitiveParts g.row.T.Denot)). primitive_items a.now) (primitive_items c.args.first.now) _ c.args.others.now c.loop-array.array-index array c.loop-array-test.true c.loop-array.invariant.items in
     let whole = part-whole (primitive_items array.now) c.len-in-loop-array.result c.len-in-loop-array.ensures.items in
-    grind (arith, common_steps, more, joined, before, kept, all, few, whole)
+    grind (arith, common_steps, fits, whole)
 
 pub returns-clause-items : goal.returns-clause-items
 returns-clause-items g c =

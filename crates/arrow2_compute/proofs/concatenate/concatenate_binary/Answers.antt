@@ -1,12 +1,12 @@
 use Rattle.std.proofs.Common.{Bor, ◌≡◌, ◌∙◌, ◌+◌, ◌<◌, ◌≤◌, ◌^◌, ◌++◌, length, get_or, take, append_assoc, ap, subst, arith, IfOk, sum_by, flat_map}
 use Rattle.std.proofs.lemmas.Grind.{common_steps}
-use Rattle.std.proofs.lemmas.List.{take_all, length-append, take_more}
+use Rattle.std.proofs.lemmas.List.{take_all, take_more}
 use Rattle.std.proofs.lemmas.List.Sums.{sum_by_push, sum_by-take-le}
 use Rattle.arrow2_model.specs.Lists.{buffer_items}
 use Rattle.arrow2_offset.specs.Offsets.{lengths_of}
 use Rattle.arrow2_text.specs.Binary.{binary_items}
 use Rattle.arrow2_compute.specs.Sizes.{slot_bytes}
-use Rattle.arrow2_compute.proofs.KernelLoops.{flat_map-more, length-first, part-whole}
+use Rattle.arrow2_compute.proofs.KernelLoops.{flat_map-more, joined-fits, part-whole}
 use Rattle.arrow2_compute.proofs.ByteCounts.{of-ok}
 use Rattle.arrow2_compute.proofs.concatenate.concatenate_binary.Goals as goal
 
@@ -23,25 +23,18 @@ loop-array-preserved g c =
 -- what overflows is no more than all items
 pub returns-in_err-extend_from_array-2-clause-overflow : goal.returns-in_err-extend_from_array-2-clause-overflow
 returns-in_err-extend_from_array-2-clause-overflow g c =
-    let first = binary_items c.args.first.now in
     let others = c.args.others.now in
     let index = c.loop-array.array-index in
     let array = c.array-item.result in
-    let items = λ (a : Bor _). binary_items a.now in
     let size = λ (a : Bor _). slot_bytes a.now in
     let count = c.count in
-    let more = ap length (flat_map-more items others index array c.loop-array-test.true) in
-    let joined = length-append (flat_map items (take index others)) (items (get_or others index array)) in
-    let before = ap length c.loop-array.invariant.items in
-    let kept = length-append first (flat_map items (take index others)) in
-    let all = length-append first (flat_map items others) in
-    let few = length-first items others (index + 1) in
+    let fits = joined-fits (λ (a : Bor _). binary_items a.now) (binary_items c.args.first.now) _ others index array c.loop-array-test.true c.loop-array.invariant.items in
     let whole = part-whole (binary_items array.now) count.result count.ensures.items in
     let heavier = ap (sum_by size) (take_more others index array c.loop-array-test.true) ∙ sum_by_push size (take index others) (get_or others index array) in
     let most = sum_by-take-le size others (index + 1) in
     let bytes = c.loop-array.invariant.bytes in
     let slots = part-whole (lengths_of (buffer_items array.now.offsets)) count.result count.ensures.slots in
-    grind (arith, common_steps, more, joined, before, kept, all, few, whole, heavier, most, bytes, slots)
+    grind (arith, common_steps, fits, whole, heavier, most, bytes, slots)
 
 pub returns-clause-items : goal.returns-clause-items
 returns-clause-items g c =

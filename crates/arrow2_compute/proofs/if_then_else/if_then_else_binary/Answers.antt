@@ -9,7 +9,9 @@ use Rattle.arrow2_walks.proofs.Selections.{chosen-more}
 use Rattle.arrow2_compute.specs.Sizes.{item_bytes}
 use Rattle.arrow2_compute.proofs.KernelLoops.{length-chosen}
 use Rattle.arrow2_compute.proofs.ByteCounts.{chosen-fits, of-ok}
+use Rattle.arrow2_compute.proofs.if_then_else.if_then_else_binary.Given as given
 use Rattle.arrow2_compute.proofs.if_then_else.if_then_else_binary.Goals as goal
+use Rattle.arrow2_compute.proofs.if_then_else.if_then_else_binary.Goals.{After-freeze}
 
 -- what overflows is no more than all items
 pub returns-in_err-push_either-clause-overflow : goal.returns-in_err-push_either-clause-overflow
@@ -36,19 +38,14 @@ chosen-all : {X : Type 0} (ms : List Bool) (xs ys : List X) (n k : ℕ) → k �
 chosen-all ms xs ys n k count left right done =
     rw (take_all n ms (omega (arith, count, done)), take_all n xs (omega (arith, count, done, left)), take_all n ys (omega (arith, count, done, right)))
 
+-- the chosen items have as many bytes as were pushed
+bytes_of_all : (g : given.Over) → (c : After-freeze g) → c.loop-position.items.bytes ≡ sum_by item_bytes (choice (items_of c.args.mask.now) (binary_items c.args.lhs.now) (binary_items c.args.rhs.now))
+bytes_of_all g c =
+    let all = chosen-all (items_of c.args.mask.now) (binary_items c.args.lhs.now) (binary_items c.args.rhs.now) c.loop-position.position _ c.len-position-end.ensures.items c.requires.left c.requires.right c.loop-position-test.false in
+    c.loop-position.invariant.bytes ∙ ap (sum_by item_bytes) (c.loop-position.invariant.items ∙ all)
+
 pub returns-clause-bytes : goal.returns-clause-bytes
-returns-clause-bytes g c =
-    let ms = items_of c.args.mask.now in
-    let xs = binary_items c.args.lhs.now in
-    let ys = binary_items c.args.rhs.now in
-    let all = chosen-all ms xs ys c.loop-position.position _ c.len-position-end.ensures.items c.requires.left c.requires.right c.loop-position-test.false in
-    subst (λ n. IfOk c.freeze.result (λ a. length (buffer_items a.values) ≡ n)) (c.loop-position.invariant.bytes ∙ ap (sum_by item_bytes) (c.loop-position.invariant.items ∙ all)) c.freeze.ensures.bytes
+returns-clause-bytes g c = subst (λ n. IfOk c.freeze.result (λ a. length (buffer_items a.values) ≡ n)) (bytes_of_all g c) c.freeze.ensures.bytes
 
 pub returns-clause-fits : goal.returns-clause-fits
-returns-clause-fits g c =
-    let ms = items_of c.args.mask.now in
-    let xs = binary_items c.args.lhs.now in
-    let ys = binary_items c.args.rhs.now in
-    let all = chosen-all ms xs ys c.loop-position.position _ c.len-position-end.ensures.items c.requires.left c.requires.right c.loop-position-test.false in
-    let bytes = c.loop-position.invariant.bytes ∙ ap (sum_by item_bytes) (c.loop-position.invariant.items ∙ all) in
-    of-ok c.freeze.result (sum_by item_bytes (choice ms xs ys) ≤ g.O.OffsetNumber.MAX) (omega (arith, bytes, c.loop-position.invariant.fits))
+returns-clause-fits g c = of-ok c.freeze.result (sum_by item_bytes (choice (items_of c.args.mask.now) (binary_items c.args.lhs.now) (binary_items c.args.rhs.now)) ≤ g.O.OffsetNumber.MAX) (omega (arith, bytes_of_all g c, c.loop-position.invariant.fits))

@@ -33,10 +33,4 @@ returns-clause-steps g c =
     }
 
 pub returns-clause-goes : goal.returns-clause-goes
-returns-clause-goes g c =
-    let b = c.self.inside in
-    let w = g.T.BitChunk.WIDTH in
-    let size = ap (λ n. 8 * n) c.SIZE.ensures ∙ g.met.T.BitChunk.size_law in
-    let moves = cursor_moves b.bytes.now _ c.SIZE.result w b.shift (b.count - 1) b.count b.remainder_len _ _ size g.met.T.BitChunk.width_bounds.0 c.self.invariant (omega arith) (slice_end b.bytes.now c.SIZE.result) c.chunk_at-word.ensures.fits c.chunk_at-word.ensures.bits in
-    let many = ap length (ap (λ s. full_words w s.items) (sym c.self.view_is) ∙ moves.1) in
-    record { on = λ _. (tt, tt, omega (arith, many)); keeps = tt; rests = λ _. tt }
+returns-clause-goes g c = record { on = λ _. (tt, tt, omega (arith, ap length (returns-clause-steps g c).word)); keeps = tt; rests = λ _. tt }

@@ -1,37 +1,35 @@
-use Rattle.std.proofs.Common.{◌∙◌, ◌≤◌, ◌+◌, ◌-◌, ◌++◌, ap, refl, arith, rules, length, take, vec_capacity, length-take-le}
+use Rattle.std.proofs.Common.{◌∙◌, ◌≤◌, ◌+◌, ◌-◌, ◌*◌, ◌++◌, ap, refl, arith, rules, length, take, vec_capacity, length-take-le}
 use Rattle.std.proofs.lemmas.Bool.{false≢true}
 use Rattle.arrow2_model.specs.Lists.{bits, unnum}
 use Rattle.arrow2_model.proofs.Bits.{length-unnum}
 use Rattle.arrow2_packed_bits.proofs.Buffer.{length_items, word_fits}
 use Rattle.arrow2_packed_bits.proofs.WordPushes.{Hold, pushed_whole, pushed_within, last_clear}
 use Rattle.arrow2_packed_bits.proofs.packed_bits.PackedBits.push_word.Goals as goal
-use Rattle.arrow2_packed_bits.proofs.packed_bits.PackedBits.push_word.Goals.{then-position-eq0+in_ok-push_first, else-position-eq0+in_ok-push_first-2}
+use Rattle.arrow2_packed_bits.proofs.packed_bits.PackedBits.push_word.Goals.{After-self, then-position-eq0+in_ok-push_first, else-position-eq0+in_ok-push_first-2}
+
+-- bits that are within the capacity have room in the vector
+room : (c : After-self) → length c.args.self.now.items + length (take c.args.count (unnum 64 c.args.word)) ≤ c.args.self.now.capacity → c.self.inside.length + c.args.count ≤ 8 * vec_capacity c.self.inside.bytes
+room c h =
+    let b = c.self.inside in
+    let size = length_items b.bytes.items b.length c.self.invariant in
+    let seen = ap (λ m. length m.items) c.self.view_is in
+    let spare = ap (λ m. m.capacity) c.self.view_is in
+    let more = length-take-le c.args.count (unnum 64 c.args.word) (omega (arith, length-unnum 64 c.args.word, c.requires.few)) in
+    omega (arith, size, seen, spare, more, h)
 
 pub returns-in_err-push_first-clause-pushes : goal.returns-in_err-push_first-clause-pushes
-returns-in_err-push_first-clause-pushes c =
-    let b = c.self.inside in
-    let size = length_items b.bytes.items b.length c.self.invariant in
-    let seen = ap (λ m. length m.items) c.self.view_is in
-    let spare = ap (λ m. m.capacity) c.self.view_is in
-    let more = length-take-le c.args.count (unnum 64 c.args.word) (omega (arith, length-unnum 64 c.args.word, c.requires.few)) in
-    record {
-      ok = search rules;
-      succeeds = λ h. absurd (false≢true (c.in_err-push_first.ensures.succeeds (omega (arith, size, seen, spare, more, b.bytes.ok.0, c.bytes_for.ensures, c.self.invariant.exact, h))));
-      capacity = omega (arith, spare, c.push_first.ensures.capacity);
-    }
+returns-in_err-push_first-clause-pushes c = record {
+  ok = search rules;
+  succeeds = λ h. absurd (false≢true (c.in_err-push_first.ensures.succeeds (omega (arith, room (goal.at.returns-in_err-push_first-clause-pushes c).After-self h, c.bytes_for.ensures, c.self.invariant.exact))));
+  capacity = omega (arith, ap (λ m. m.capacity) c.self.view_is, c.push_first.ensures.capacity);
+}
 
 pub returns-in_err-push_first-2-clause-pushes : goal.returns-in_err-push_first-2-clause-pushes
-returns-in_err-push_first-2-clause-pushes c =
-    let b = c.self.inside in
-    let size = length_items b.bytes.items b.length c.self.invariant in
-    let seen = ap (λ m. length m.items) c.self.view_is in
-    let spare = ap (λ m. m.capacity) c.self.view_is in
-    let more = length-take-le c.args.count (unnum 64 c.args.word) (omega (arith, length-unnum 64 c.args.word, c.requires.few)) in
-    record {
-      ok = search rules;
-      succeeds = λ h. absurd (false≢true (c.in_err-push_first-2.ensures.succeeds (omega (arith, size, seen, spare, more, b.bytes.ok.0, c.bytes_for-else-position-eq0.ensures, c.self.invariant.exact, h))));
-      capacity = omega (arith, spare, c.push_first-else-position-eq0.ensures.capacity);
-    }
+returns-in_err-push_first-2-clause-pushes c = record {
+  ok = search rules;
+  succeeds = λ h. absurd (false≢true (c.in_err-push_first-2.ensures.succeeds (omega (arith, room (goal.at.returns-in_err-push_first-2-clause-pushes c).After-self h, c.bytes_for-else-position-eq0.ensures, c.self.invariant.exact))));
+  capacity = omega (arith, ap (λ m. m.capacity) c.self.view_is, c.push_first-else-position-eq0.ensures.capacity);
+}
 
 pub merge_bits-requires-clause-clear : goal.merge_bits-requires-clause-clear
 merge_bits-requires-clause-clear c i h h' =
