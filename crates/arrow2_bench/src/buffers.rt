@@ -77,11 +77,11 @@ fn mix(buffer: Buffer<u64>) -> usize {
 #[unsafe(no_mangle)]
 pub extern "C" fn bench_words(alloc: Global, call: &[u8], items: &[u64], runs: &[usize]) -> usize {
     if call == b"products".as_slice() {
-        on_firsts(items, runs, |items| products(alloc, items))
+        on_firsts(alloc, items, runs, products)
     } else if call == b"nonzero".as_slice() {
-        on_firsts(items, runs, |items| nonzero(alloc, items))
+        on_firsts(alloc, items, runs, nonzero)
     } else if call == b"comparisons".as_slice() {
-        on_firsts(items, runs, |items| comparisons(alloc, items))
+        on_firsts(alloc, items, runs, comparisons)
     } else {
         usize::MAX
     }

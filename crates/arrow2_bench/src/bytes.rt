@@ -1,7 +1,7 @@
 //! Bits of bytes, the bitmap of all of them, and bytes that are written.
 
 use crate::growing::pop;
-use crate::runs::{Part, on_each};
+use crate::runs::{Part, on_bytes, on_each};
 use arrow2_bitmap::Bitmap;
 use arrow2_bits::{
     BitChunkIterExact, BitChunks, BitChunksExactMut, BitmapIter, count_zeros, set_bit,
@@ -15,15 +15,15 @@ use std::alloc::Global;
 #[unsafe(no_mangle)]
 pub extern "C" fn bench_bits(alloc: Global, call: &[u8], bytes: &[u8], parts: &[Part]) -> usize {
     if call == b"count_zeros".as_slice() {
-        on_each(parts, |part| zeros_of(bytes, part))
+        on_bytes(bytes, parts, zeros_of)
     } else if call == b"words".as_slice() {
-        on_each(parts, |part| words::<u64>(bytes, part))
+        on_bytes(bytes, parts, words::<u64>)
     } else if call == b"words_of_u32".as_slice() {
-        on_each(parts, |part| words::<u32>(bytes, part))
+        on_bytes(bytes, parts, words::<u32>)
     } else if call == b"words_of_u8".as_slice() {
-        on_each(parts, |part| words::<u8>(bytes, part))
+        on_bytes(bytes, parts, words::<u8>)
     } else if call == b"iter".as_slice() {
-        on_each(parts, |part| ones_of(bytes, part))
+        on_bytes(bytes, parts, ones_of)
     } else if call == b"sliced".as_slice() {
         on_whole(alloc, bytes, parts, count_slice)
     } else {

@@ -13,13 +13,13 @@ use std::alloc::Global;
 #[unsafe(no_mangle)]
 pub extern "C" fn bench_bools(alloc: Global, call: &[u8], items: &[bool], runs: &[usize]) -> usize {
     if call == b"push".as_slice() {
-        on_firsts(items, runs, |items| push(alloc, items))
+        on_firsts(alloc, items, runs, push)
     } else if call == b"from_bools".as_slice() {
-        on_firsts(items, runs, |items| from_bools(alloc, items))
+        on_firsts(alloc, items, runs, from_bools)
     } else if call == b"extend_from_bools".as_slice() {
-        on_firsts(items, runs, |items| extend_from_bools(alloc, items))
+        on_firsts(alloc, items, runs, extend_from_bools)
     } else if call == b"try_from_iter".as_slice() {
-        on_firsts(items, runs, |items| try_from_iter(alloc, items))
+        on_firsts(alloc, items, runs, try_from_iter)
     } else {
         usize::MAX
     }

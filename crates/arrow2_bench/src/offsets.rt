@@ -11,9 +11,9 @@ use std::convert::TryFrom;
 #[unsafe(no_mangle)]
 pub extern "C" fn bench_slot(alloc: Global, call: &[u8], slots: &[usize], runs: &[usize]) -> usize {
     if call == b"try_from_lengths".as_slice() {
-        on_firsts(slots, runs, |slots| try_from_lengths(alloc, slots))
+        on_firsts(alloc, slots, runs, try_from_lengths)
     } else if call == b"extend_from_lengths".as_slice() {
-        on_firsts(slots, runs, |slots| extend_from_lengths(alloc, slots))
+        on_firsts(alloc, slots, runs, extend_from_lengths)
     } else {
         usize::MAX
     }
@@ -36,7 +36,7 @@ fn extend_from_lengths(alloc: Global, slots: &[usize]) -> Result<usize> {
 #[unsafe(no_mangle)]
 pub extern "C" fn bench_longs(alloc: Global, call: &[u8], items: &[i64], runs: &[usize]) -> usize {
     if call == b"try_push".as_slice() {
-        on_firsts(items, runs, |slots| try_push(alloc, slots))
+        on_firsts(alloc, items, runs, try_push)
     } else if call == b"try_from".as_slice() {
         try_from(alloc, items, runs)
     } else if call == b"start_end".as_slice() {

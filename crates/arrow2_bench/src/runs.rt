@@ -3,6 +3,7 @@
 ghost use Rattle.std.specs.Prelude.{◌+◌, ◌≤◌, ◌↔◌, IsTrue};
 
 use arrow2_types::Result;
+use std::alloc::Global;
 
 /// A part of bits or of items: where it begins, and how long it is.
 #[repr(C)]
@@ -37,12 +38,24 @@ pub fn on_each<R, F: Fn(&R) -> Result<usize>>(runs: &[R], call: F) -> usize
     sum
 }
 
+/// Makes the call on the bytes and each run.
+pub fn on_bytes<R, F: Fn(&[u8], &R) -> Result<usize>>(bytes: &[u8], runs: &[R], call: F) -> usize
+    requires { F.IsAlwaysCallable call }
+{
+    on_each(runs, |run| call(bytes, run))
+}
+
 /// Makes the call on a prefix of the items, whose length each run chooses.
-pub fn on_firsts<T, F: Fn(&[T]) -> Result<usize>>(items: &[T], runs: &[usize], call: F) -> usize
+pub fn on_firsts<T, F: Fn(Global, &[T]) -> Result<usize>>(
+    alloc: Global,
+    items: &[T],
+    runs: &[usize],
+    call: F,
+) -> usize
     requires { F.IsAlwaysCallable call }
 {
     on_each(runs, |run| match items.get(..*run) {
-        Some(firsts) => call(firsts),
+        Some(firsts) => call(alloc, firsts),
         None => Ok(0),
     })
 }
